@@ -1,0 +1,5 @@
+pub mod Eights
+pub mod Repeat
+pub mod Rotate
+pub mod Schedules
+pub mod Steps

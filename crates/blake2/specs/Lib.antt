@@ -1,0 +1,4 @@
+pub mod Bytes
+pub mod Compression
+pub mod Schedule
+pub mod Width

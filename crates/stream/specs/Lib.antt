@@ -1,0 +1,4 @@
+pub mod Examples
+pub mod Hash
+pub mod States
+pub mod Streams
