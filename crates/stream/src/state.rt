@@ -100,7 +100,8 @@ pub(crate) fn add_key<W: Word>(s: &mut State<W>, key: &[u8])
     ensures count { λ _. ⌜ now (s .exit) .t + now (s .exit) .filled ≡ length (keyBlock (W·Word .width) (now (key .entry))) ⌝ }
     ensures means { λ _. ⌜ ((node : Bool) (rest : List ℕ) → meaning (W·Word .width) (W·Word .value) (now (s .exit)) node rest ≡ meaning (W·Word .width) (W·Word .value) (now (s .entry)) node (keyBlock (W·Word .width) (now (key .entry)) ++ rest)) ⌝ }
 {
-    if key.len() > 0 {
+    let keyed = key.len() > 0;
+    if keyed {
         let zeros = [0u8; 128];
         let n = 16 * W::size() - key.len();
         add(s, key);

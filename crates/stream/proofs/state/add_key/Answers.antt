@@ -1,6 +1,6 @@
 use mathlib.Core.Path.{_≡_, sym, ap, _∙_}
 use mathlib.Core.List.{_++_}
-use Prim.Native.Nat.{ℕ, _-_, _*_, _≤_}
+use Prim.Native.Nat.{ℕ, _-_, _*_, _≤_, _<_}
 use lib.ListN.{length, take, replicate}
 use native.Mathlib.Omega.{arith}
 use borrow.Author.Needs.{needs}
@@ -10,20 +10,21 @@ use Rattle.stream.specs.States.{meaning}
 use Rattle.stream.proofs.Keys.{keyed, length-keyBlock}
 use Rattle.stream.proofs.state.add_key.Needs as need
 
-pub returns-then-key-gt0 : need.returns-then-key-gt0
-returns-then-key-gt0 g c =
+pub returns-then-keyed : need.returns-then-keyed
+returns-then-keyed g c =
     let w = g .W·Word .width in
     let key = c .args .key .now in
     let n = 16 * c .size .result - length key - 0 in
     let size = c .size .ensures in
+    let some : 0 < length key = c .if-keyed .taken in
     record {
       filled = search needs;
       count =
-          let block = length-keyBlock w key (c .if-key-gt0 .taken) (omega arith) in
+          let block = length-keyBlock w key some (omega arith) in
           let zeros : length (take n (replicate {A = ℕ} 128 0)) ≡ n = length-take-le n (replicate 128 0) (omega arith) in
-          omega (arith, c .add .ensures .count, c .add-then-key-gt0 .ensures .count);
+          omega (arith, c .add .ensures .count, c .add-then-keyed .ensures .count);
       means = λ node rest.
-          c .add-then-key-gt0 .ensures .means node rest
+          c .add-then-keyed .ensures .means node rest
           ∙ c .add .ensures .means node (take n (replicate 128 0) ++ rest)
-          ∙ ap (meaning w (g .W·Word .value) (c .args .s .now) node) (keyed w key rest n (c .if-key-gt0 .taken) (omega arith) (omega arith));
+          ∙ ap (meaning w (g .W·Word .value) (c .args .s .now) node) (keyed w key rest n some (omega arith) (omega arith));
     }

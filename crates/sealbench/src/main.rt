@@ -1,0 +1,36 @@
+// sealbench, the command line of Puligastru.
+mod digest;
+mod example;
+mod failure;
+mod help;
+mod options;
+mod output;
+
+use failure::Failure;
+use failure::FailureDisplay;
+use failure::FailureFromRefused;
+use failure::FailureFromIo;
+use options::Command;
+use std::env;
+use std::error::AnyError;
+
+fn main(rt: LibcRuntime) -> Result<(), AnyError> {
+    if let Err(failure) = run(&rt) {
+        eprintln!(rt, "sealbench: {failure}")?;
+        return Err("not done".into());
+    }
+    Ok(())
+}
+
+fn run(rt: &LibcRuntime) -> Result<(), Failure> {
+    let heap = rt.alloc();
+    let mut words = Vec::new(heap);
+    for word in env::args(rt)?.skip(1) {
+        words.push(word)?;
+    }
+    match options::read(heap, &words)? {
+        Command::Example => example::run(rt),
+        Command::Help => help::print(rt),
+        Command::Digest(options) => digest::run(rt, &options),
+    }
+}
