@@ -28,7 +28,13 @@ fn status_of(answer: Result<u64, Fault>) -> u32
 
 // The digest of one buffer: 0 where it was written, else the refusal's number, and then `out` is as it was.
 #[unsafe(no_mangle)]
-pub extern "C" fn puligastru_digest(variant: u32, digest_bytes: usize, key: &[u8], input: &[u8], out: &mut [u8]) -> u32
+pub extern "C" fn puligastru_digest(
+    variant: u32,
+    digest_bytes: usize,
+    key: &[u8],
+    input: &[u8],
+    out: &mut [u8],
+) -> u32
     ensures status { λ r. ⌜ r ≡ statusOf (digestAnswer (widthOf (variantOf variant)) «digest_bytes» (length (now (key .entry))) (length (now (input .entry))) (length (now (out .entry)))) ⌝ }
     ensures out { λ _. ⌜ now (out .exit) ≡ digestOut (widthOf (variantOf variant)) «digest_bytes» (now (key .entry)) (now (input .entry)) (now (out .entry)) ⌝ }
 {

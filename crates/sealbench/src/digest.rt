@@ -38,7 +38,12 @@ pub fn run(rt: &LibcRuntime, options: &DigestOptions) -> Result<(), Failure> {
 }
 
 // One line: the digest in hexadecimal digits, two blanks and the file's name.
-fn print_line(rt: &LibcRuntime, options: &DigestOptions, key: &[u8], file: &str) -> Result<(), Failure> {
+fn print_line(
+    rt: &LibcRuntime,
+    options: &DigestOptions,
+    key: &[u8],
+    file: &str,
+) -> Result<(), Failure> {
     let heap = rt.alloc();
     let text = match options.variant {
         Variant::B => {
@@ -60,7 +65,12 @@ fn print_line(rt: &LibcRuntime, options: &DigestOptions, key: &[u8], file: &str)
     Ok(())
 }
 
-fn digest_file<W: Word>(rt: &LibcRuntime, stream: Stream<W>, file: &str, out: &mut [u8]) -> Result<(), Failure> {
+fn digest_file<W: Word>(
+    rt: &LibcRuntime,
+    stream: Stream<W>,
+    file: &str,
+    out: &mut [u8],
+) -> Result<(), Failure> {
     if file == "-" {
         return digest_all(rt, stream, &mut rt.stdin(), out);
     }
@@ -68,7 +78,12 @@ fn digest_file<W: Word>(rt: &LibcRuntime, stream: Stream<W>, file: &str, out: &m
 }
 
 // Adds all that there is to read, piece by piece, and finishes.
-fn digest_all<W: Word, R: Read>(rt: &LibcRuntime, mut stream: Stream<W>, from: &mut R, out: &mut [u8]) -> Result<(), Failure> {
+fn digest_all<W: Word, R: Read>(
+    rt: &LibcRuntime,
+    mut stream: Stream<W>,
+    from: &mut R,
+    out: &mut [u8],
+) -> Result<(), Failure> {
     let mut piece = vec![in rt.alloc(); 0u8; PIECE]?;
     for _ in 0..u64::MAX {
         let n = from.read(&mut piece)?;

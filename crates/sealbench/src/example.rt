@@ -12,10 +12,16 @@ use stream::Stream;
 const LAYOUT: &[u8; 9] = b"CLUTCH-07";
 
 pub fn run(rt: &LibcRuntime) -> Result<(), Failure> {
-    println!(rt, "The layout name CLUTCH-07, digested in one piece and in two:")?;
+    println!(
+        rt,
+        "The layout name CLUTCH-07, digested in one piece and in two:"
+    )?;
     whole(rt)?;
     pieces(rt)?;
-    println!(rt, "The same under the key 'bench 4', by BLAKE2s, 16 bytes:")?;
+    println!(
+        rt,
+        "The same under the key 'bench 4', by BLAKE2s, 16 bytes:"
+    )?;
     keyed(rt)?;
     println!(rt, "What is refused:")?;
     refused(rt)

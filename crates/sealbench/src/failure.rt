@@ -26,7 +26,10 @@ pub impl fmt::Display for Failure as FailureDisplay {
             Failure::File(error) => write!(f, "{error}"),
             Failure::Memory => write!(f, "there is not enough memory"),
             Failure::Files => write!(f, "not every file could be digested"),
-            Failure::Usage(text) => write!(f, "{text}; 'sealbench help' lists commands and options"),
+            Failure::Usage(text) => write!(
+                f,
+                "{text}; 'sealbench help' lists commands and options"
+            ),
         }
     }
 }

@@ -8,8 +8,8 @@ mod output;
 
 use failure::Failure;
 use failure::FailureDisplay;
-use failure::FailureFromRefused;
 use failure::FailureFromIo;
+use failure::FailureFromRefused;
 use options::Command;
 use std::env;
 use std::error::AnyError;

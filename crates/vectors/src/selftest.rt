@@ -18,8 +18,20 @@ pub fn try_both(rt: &LibcRuntime) -> Result<bool, AnyError> {
     let heap = rt.alloc();
     let mut b = [0u8; 32];
     let mut s = [0u8; 32];
-    run(heap, Stream::<u64>::begin(32, &[]), &[20, 32, 48, 64], &[0, 3, 128, 129, 255, 1024], &mut b)?;
-    run(heap, Stream::<u32>::begin(32, &[]), &[16, 20, 28, 32], &[0, 3, 64, 65, 255, 1024], &mut s)?;
+    run(
+        heap,
+        Stream::<u64>::begin(32, &[]),
+        &[20, 32, 48, 64],
+        &[0, 3, 128, 129, 255, 1024],
+        &mut b,
+    )?;
+    run(
+        heap,
+        Stream::<u32>::begin(32, &[]),
+        &[16, 20, 28, 32],
+        &[0, 3, 64, 65, 255, 1024],
+        &mut s,
+    )?;
     let b_text = hex(heap, &b)?;
     let s_text = hex(heap, &s)?;
     let b_line = format!(heap, "b, self-test: {b_text}")?;
@@ -30,7 +42,13 @@ pub fn try_both(rt: &LibcRuntime) -> Result<bool, AnyError> {
 }
 
 // Digests every input at every digest length, and writes the digest of all these digests.
-fn run<W: Word>(heap: Global, mut all: Stream<W>, lengths: &[usize], inputs: &[usize], out: &mut [u8]) -> Result<(), AllocError> {
+fn run<W: Word>(
+    heap: Global,
+    mut all: Stream<W>,
+    lengths: &[usize],
+    inputs: &[usize],
+    out: &mut [u8],
+) -> Result<(), AllocError> {
     for length in lengths {
         for size in inputs {
             add_pair(heap, &mut all, *length, *size)?;
@@ -41,7 +59,12 @@ fn run<W: Word>(heap: Global, mut all: Stream<W>, lengths: &[usize], inputs: &[u
 }
 
 // Adds two digests of an input: without a key, and with a key as long as the digest.
-fn add_pair<W: Word>(heap: Global, all: &mut Stream<W>, length: usize, size: usize) -> Result<(), AllocError> {
+fn add_pair<W: Word>(
+    heap: Global,
+    all: &mut Stream<W>,
+    length: usize,
+    size: usize,
+) -> Result<(), AllocError> {
     let mut input = vec![in heap; 0u8; size]?;
     let mut key = vec![in heap; 0u8; length]?;
     let mut digest = vec![in heap; 0u8; length]?;

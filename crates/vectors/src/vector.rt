@@ -14,7 +14,11 @@ pub fn try_line(rt: &LibcRuntime, line: &str) -> Result<bool, AnyError> {
     let input = words.next().ok_or("the input is missing")?;
     let published = words.next().ok_or("the digest is missing")?;
     let key = counting(heap, key.parse::<usize>()?)?;
-    let input = if input == "abc" { Vec::from_slice(heap, b"abc")? } else { counting(heap, input.parse::<usize>()?)? };
+    let input = if input == "abc" {
+        Vec::from_slice(heap, b"abc")?
+    } else {
+        counting(heap, input.parse::<usize>()?)?
+    };
     let mut digest = vec![in heap; 0u8; published.len() / 2]?;
     let answer = match variant {
         "b" => stream::digest::<u64>(digest.len(), &key, &input, &mut digest),
