@@ -1,25 +1,25 @@
 -- Pieces that are added one after another, and what one call over them all answers.
 use mathlib.Core.Path.{_≡_, refl, sym, ap, _∙_}
-use mathlib.Core.Bool.{Bool, true, false, cond}
+use mathlib.Core.Bool.{Bool, true, false, cond, not}
 use mathlib.Core.List.{List, [], _∷_, _++_}
 use Prim.Native.Nat.{ℕ, zero, suc, _+_, _^_, _≤_, _<_}
 use native.Mathlib.Nat.{add-zero, zero-add, add-assoc}
 use native.Mathlib.Omega.{arith}
-use lib.Dec.{ltb}
+use lib.Dec.{eqb, ltb}
 use lib.ListN.{length, getD, take}
 use Rattle.std.specs.declared.result.Result.{Result}
 use Rattle.std.specs.declared.result.Result.the-variants.{Ok, Err}
 use Rattle.std.specs.Results.{isOk}
 use Rattle.std.proofs.shelf.Lists.{append-nil, append-assoc, length-append, take-more}
-use Rattle.std.proofs.shelf.Tests.{ltb-true, lt-ltb}
+use Rattle.std.proofs.shelf.Tests.{ltb-true, lt-ltb, eq-eqb}
 use Rattle.blake2.specs.Width.{Width}
 use Rattle.fault.proofs.Rows.{rows-stop, rows-pass}
 use Rattle.fault.specs.Faults.{fault, unless}
 use Rattle.fault.specs.declared.fault.Fault.{Fault}
-use Rattle.fault.specs.declared.refusal.Refusal.the-variants.{StreamLength}
+use Rattle.fault.specs.declared.refusal.Refusal.the-variants.{StreamLength, DigestBuffer}
 use Rattle.stream.specs.Hash.{blocks, digest}
-use Rattle.stream.specs.Streams.{View, fresh, beginRows, beginAnswer, begun, addRows, addAnswer, taken, added, finishRows, finishAnswer, finished, joined, digestAnswer, digestOut}
-use Rattle.stream.proofs.Views.{view-is, accepted}
+use Rattle.stream.specs.Streams.{View, fresh, beginRows, beginAnswer, begun, addRows, addAnswer, taken, added, addedAll, finishRows, finishAnswer, finished, joined, digestAnswer, digestOut}
+use Rattle.stream.proofs.Views.{view-is, accepted, added-is}
 
 pub taken-none : (v : View) → v ≡ taken v []
 taken-none v = view-is v (taken v []) refl (sym (add-zero (v .total))) (λ n. ap (v .blocks) (sym (zero-add n))) (λ rest. refl)
@@ -99,3 +99,22 @@ finish-writes w d key input out v ok short e =
     ap (λ answer. cond (isOk answer) (v .digest []) out) (finish-answers w d (length out) key input v ok short e)
     ∙ ap (λ bytes. cond (isOk (digestAnswer w d (length key) (length input) (length out))) bytes out)
     (ap (λ u. u .digest []) e ∙ ap (digest w d key) (append-nil input))
+
+-- pieces that there is room for, added one after another
+added-all : (v : View) (pieces : List (List ℕ)) → v .total + length (joined pieces) ≤ 2 ^ 40 → addedAll v pieces ≡ taken v (joined pieces)
+added-all v [] room = taken-none v
+added-all v (piece ∷ pieces) room =
+    let long = length-append piece (joined pieces) in
+    ap (λ u. addedAll u pieces) (added-is v piece (omega arith)) ∙ added-all (taken v piece) pieces (omega arith) ∙ taken-more v piece (joined pieces)
+
+-- a finish into an output of the digest's length, after any pieces
+pub finish-joined : (w : Width) (d : ℕ) (key out : List ℕ) (pieces : List (List ℕ)) (v : View) → beginAnswer w d (length key) ≡ Ok tt → length (joined pieces) ≤ 2 ^ 40
+    → v ≡ addedAll (begun w d key) pieces → length out ≡ d → finished v out ≡ digest w d key (joined pieces)
+finish-joined w d key out pieces v ok short e long =
+    let fits : 0 + length (joined pieces) ≤ 2 ^ 40 = omega arith in
+    let all : v ≡ taken (fresh w d key) (joined pieces) =
+    e ∙ ap (λ u. addedAll u pieces) (begun-is w d key ok) ∙ added-all (fresh w d key) pieces fits in
+    let right : eqb (length out) d ≡ true = eq-eqb (length out) d long in
+    ap (λ u. finished u out) all
+    ∙ ap (λ (b : Bool). cond (isOk {E = Fault} (cond (not b) (Err (fault DigestBuffer 0)) (Ok (blocks w (length key) (length (joined pieces) + 0))))) (digest w d key (joined pieces ++ [])) out) right
+    ∙ ap (digest w d key) (append-nil (joined pieces))

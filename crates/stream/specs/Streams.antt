@@ -66,6 +66,11 @@ finishAnswer v n = unless (finishRows (v .length) n) (v .blocks 0)
 abbrev pub finished : View → List ℕ → List ℕ
 finished v out = cond (isOk (finishAnswer v (length out))) (v .digest []) out
 
+-- What adding pieces one after another leaves.
+abbrev pub addedAll : View → List (List ℕ) → View
+addedAll v [] = v
+addedAll v (piece ∷ pieces) = addedAll (added v piece) pieces
+
 -- the pieces, one after another
 abbrev pub joined : List (List ℕ) → List ℕ
 joined [] = []

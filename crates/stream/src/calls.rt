@@ -1,12 +1,13 @@
 // The calls on a stream.
-ghost use mathlib.Core.List.{List, _∷_, []};
+ghost use mathlib.Core.List.{List};
 ghost use mathlib.Core.Path.{_≡_};
-ghost use Prim.Native.Nat.{_≤_};
+ghost use Prim.Native.Nat.{ℕ, _^_, _≤_};
 ghost use lib.ListN.{length};
+ghost use Rattle.std.specs.declared.result.Result.the-variants.{Ok};
 ghost use Rattle.blake2.specs.Width.{longest};
-ghost use Rattle.stream.specs.Hash.{sequential};
+ghost use Rattle.stream.specs.Hash.{sequential, digest};
 ghost use Rattle.stream.specs.States.{viewOf};
-ghost use Rattle.stream.specs.Streams.{fresh, beginAnswer, begun, addAnswer, added, finishAnswer, finished};
+ghost use Rattle.stream.specs.Streams.{fresh, beginAnswer, begun, addAnswer, added, addedAll, finishAnswer, finished, joined};
 use crate::state;
 use crate::stream::Stream;
 use blake2::Word;
@@ -57,9 +58,11 @@ impl<W: Word> Stream<W> {
     }
 
     // Writes the digest of all that went in, and says how many compressions it took. The stream is used up: also by 14, where the output is not as long as the digest, and stays as it was.
+    // Whatever pieces were added since it was begun, the digest is the standard's, of the joined pieces.
     pub fn finish(self, out: &mut [u8]) -> Result<u64, Fault>
         ensures answer { λ r. ⌜ r ≡ finishAnswer (viewOf (W·Word .width) (W·Word .value) self) (length (now (out .entry))) ⌝ }
         ensures out { λ _. ⌜ now (out .exit) ≡ finished (viewOf (W·Word .width) (W·Word .value) self) (now (out .entry)) ⌝ }
+        ensures joined { λ _. ⌜ ((d : ℕ) (key : List ℕ) (pieces : List (List ℕ)) → beginAnswer (W·Word .width) d (length key) ≡ Ok tt → length (joined pieces) ≤ 2 ^ 40 → viewOf (W·Word .width) (W·Word .value) self ≡ addedAll (begun (W·Word .width) d key) pieces → length (now (out .entry)) ≡ d → now (out .exit) ≡ digest (W·Word .width) d key (joined pieces)) ⌝ }
     {
         let Stream {
             state,
