@@ -1,5 +1,5 @@
 -- One step of G on a vector of machine words is that step on the words' values.
-use mathlib.Core.Path.{_≡_, refl, sym, ap, _∙_}
+use mathlib.Core.Path.{_≡_, ap, _∙_}
 use mathlib.Core.List.{List, map}
 use Prim.Native.Nat.{ℕ, _+_, _%_, _^_, _<_, _-_}
 use native.Mathlib.Nat.{mod-add-mod}

@@ -1,7 +1,7 @@
 // The machine words that BLAKE2 works on.
 ghost use mathlib.Core.List.{map};
 ghost use mathlib.Core.Path.{_≡_};
-ghost use Prim.Native.Nat.{ℕ, _+_, _*_, _/_, _%_, _^_, _<_, _≤_};
+ghost use Prim.Native.Nat.{ℕ, _+_, _/_, _%_, _^_, _<_, _≤_};
 ghost use lib.Bits.{bitXor};
 ghost use lib.ListN.{take};
 ghost use Rattle.blake2.specs.Bytes.{le, leBytes, pad};

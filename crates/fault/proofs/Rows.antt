@@ -1,8 +1,7 @@
 -- Rows of refusals, one list after another.
 use mathlib.Core.Path.{_≡_, refl}
-use mathlib.Core.Bool.{Bool, true, false, cond}
+use mathlib.Core.Bool.{true, false}
 use mathlib.Core.List.{List, [], _∷_, _++_}
-use Rattle.std.specs.declared.result.Result.{Result}
 use Rattle.std.specs.declared.result.Result.the-variants.{Ok, Err}
 use Rattle.fault.specs.Faults.{Row, on, unless}
 use Rattle.fault.specs.declared.fault.Fault.{Fault}

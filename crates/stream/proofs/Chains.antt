@@ -3,7 +3,7 @@ use mathlib.Core.Path.{_≡_, refl, sym, ap, _∙_}
 use mathlib.Core.Bool.{Bool, true, false}
 use mathlib.Core.List.{List, [], _∷_, _++_}
 use Prim.Native.Nat.{ℕ, zero, suc, _+_, _-_, _*_, _/_, _%_, _<_, _≤_}
-use native.Mathlib.Nat.{add-div-right, mul-zero, mul-suc, add-comm, add-assoc, add-zero, div-mul-le-self, mul-le-mul-right, mul-comm, mul-add, mul-one, add-mul, one-mul}
+use native.Mathlib.Nat.{add-div-right, mul-suc, add-comm, add-assoc, add-zero, div-mul-le-self, mul-le-mul-right, mul-comm, mul-add, mul-one, add-mul, one-mul}
 use native.Mathlib.Numerals.{add-one}
 use native.Mathlib.Omega.{arith}
 use lib.ListN.{length, take, drop}
@@ -11,7 +11,7 @@ use Rattle.std.proofs.shelf.Lists.{take-at, take-all, take-append-drop, drop-at
 use Rattle.blake2.specs.Bytes.{wordsOf, pad}
 use Rattle.blake2.specs.Compression.{compress}
 use Rattle.blake2.specs.Width.{Width, blockSize}
-use Rattle.stream.specs.Hash.{chain, before, ended}
+use Rattle.stream.specs.Hash.{chain, ended}
 use Rattle.stream.proofs.Closing.{whole-blocks}
 
 -- one turn of the block loop: i of n blocks are done

@@ -1,13 +1,13 @@
 -- The last bytes: the blocks before the last one, and the last one with zeros after its bytes.
 use mathlib.Core.Path.{_≡_, refl, sym, ap, _∙_}
 use mathlib.Core.Bool.{Bool, true, false}
-use mathlib.Core.List.{List, [], _∷_, _++_}
+use mathlib.Core.List.{List, _++_}
 use Prim.Native.Nat.{ℕ, zero, suc, _+_, _-_, _*_, _/_, _%_, _<_, _≤_}
 use native.Mathlib.Nat.{mul-div-cancel-left, mul-suc, mul-add, mul-one, mul-comm, mul-le-mul-left, add-comm, dvd-of-mod-eq-zero, mul-dvd-mul-left, dvd-trans, div-mul-cancel}
 use native.Mathlib.Omega.{arith}
 use lib.ListN.{length, take, drop, replicate}
 use Rattle.std.proofs.shelf.Bits.{div-below, div-add-mod', mod-below}
-use Rattle.std.proofs.shelf.Lists.{take-at, take-take, take-all, take-append-drop, take-replicate, drop-append-le, drop-take, length-append, length-take-le, length-take, length-drop, length-replicate, append-assoc}
+use Rattle.std.proofs.shelf.Lists.{take-at, take-take, take-all, take-append-drop, take-replicate, drop-append-le, drop-take, length-append, length-take-le, length-drop, length-replicate, append-assoc}
 use Rattle.blake2.specs.Bytes.{pad, wordsOf}
 use Rattle.blake2.specs.Compression.{compress}
 use Rattle.blake2.specs.Width.{Width, blockSize}

@@ -1,5 +1,5 @@
 // A digest in one call.
-ghost use mathlib.Core.List.{List, map, [], _∷_};
+ghost use mathlib.Core.List.{map, []};
 ghost use mathlib.Core.Path.{_≡_};
 ghost use lib.ListN.{length};
 ghost use Rattle.blake2.specs.Width.{blake2b, blake2s};

@@ -6,7 +6,7 @@ ghost use mathlib.Core.Path.{_≡_};
 ghost use Prim.Native.Nat.{ℕ, _+_, _*_, _%_, _^_, _<_, _≤_};
 ghost use lib.ListN.{length, take};
 ghost use Rattle.blake2.specs.Bytes.{pad, bytesOf};
-ghost use Rattle.blake2.specs.Width.{blockSize, longest};
+ghost use Rattle.blake2.specs.Width.{longest};
 ghost use Rattle.stream.specs.Hash.{ended, initial, keyBlock, before};
 ghost use Rattle.stream.specs.States.{meaning};
 use crate::chain::chain;

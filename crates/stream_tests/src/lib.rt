@@ -14,8 +14,14 @@ mod tests {
     // A refused begin gives a stream of one byte without a key.
     #[test]
     fn refused_begin_gives_the_least_stream() -> Result<(), Fail> {
-        check_eq(Stream::<u64>::check(65, b"key"), Err(Fault::new(Refusal::DigestLength, 0)))?;
-        check_eq(Stream::<u32>::check(32, &[0; 33]), Err(Fault::new(Refusal::KeyLength, 0)))?;
+        check_eq(
+            Stream::<u64>::check(65, b"key"),
+            Err(Fault::new(Refusal::DigestLength, 0)),
+        )?;
+        check_eq(
+            Stream::<u32>::check(32, &[0; 33]),
+            Err(Fault::new(Refusal::KeyLength, 0)),
+        )?;
         let mut stream = Stream::<u64>::begin(65, b"key");
         stream.add(b"abc")?;
         let mut out = [0u8; 1];
@@ -41,8 +47,16 @@ mod tests {
         let mut whole = [0u8; 20];
         let mut cut = [0u8; 20];
         check_eq(stream::digest::<u32>(20, b"key", &bytes, &mut whole), Ok(6))?;
-        let pieces = [&bytes[0..1], &bytes[1..128], &bytes[128..128], &bytes[128..300]];
-        check_eq(stream::digest_pieces::<u32>(20, b"key", &pieces, &mut cut), Ok(6))?;
+        let pieces = [
+            &bytes[0..1],
+            &bytes[1..128],
+            &bytes[128..128],
+            &bytes[128..300],
+        ];
+        check_eq(
+            stream::digest_pieces::<u32>(20, b"key", &pieces, &mut cut),
+            Ok(6),
+        )?;
         check_eq(whole, cut)
     }
 
@@ -50,6 +64,9 @@ mod tests {
     #[test]
     fn a_fault_says_what_is_wrong(rt: LibcRuntime) -> Result<(), Fail> {
         let text = format!(rt.alloc(), "{}", Fault::new(Refusal::NumberRange, 7))?;
-        check(text.as_str() == "22 label 7: the number on this line of the label is outside its range")
+        check(
+            text.as_str()
+                == "22 label 7: the number on this line of the label is outside its range",
+        )
     }
 }

@@ -1,9 +1,8 @@
-use mathlib.Core.Path.{_≡_, sym, refl, ap, _∙_}
+use mathlib.Core.Path.{_≡_, sym}
 use mathlib.Core.List.{map, []}
-use Prim.Native.Nat.{ℕ}
 use native.Mathlib.Omega.{arith}
 use lib.ListN.{getD}
-use Rattle.blake2.specs.Compression.{repeat, round, feed, compress}
+use Rattle.blake2.specs.Compression.{round, feed, compress}
 use Rattle.blake2.specs.Schedule.{sigma}
 use Rattle.blake2.proofs.Repeat.{repeat-none, repeat-more}
 use Rattle.blake2.proofs.compression.compress.Needs as need

@@ -1,13 +1,11 @@
-use mathlib.Core.Path.{_≡_, refl, sym, ap, _∙_}
-use mathlib.Core.Bool.{false, cond}
-use mathlib.Core.List.{List, _++_}
-use Prim.Native.Nat.{ℕ, _+_, min, _≤_}
-use lib.Dec.{eqb}
+use mathlib.Core.Path.{_≡_, refl, ap, _∙_}
+use mathlib.Core.Bool.{false}
+use mathlib.Core.List.{_++_}
+use Prim.Native.Nat.{_+_, min}
 use lib.ListN.{length, take}
 use native.Mathlib.Omega.{arith}
-use borrow.Author.Needs.{needs}
 use Rattle.blake2.specs.Bytes.{bytesOf}
-use Rattle.blake2.specs.Width.{blockSize, longest}
+use Rattle.blake2.specs.Width.{longest}
 use Rattle.stream.specs.Hash.{ended, keyBlock, initial, before, hash, digest, sequential}
 use Rattle.stream.specs.States.{meaning}
 use Rattle.stream.proofs.Keys.{length-keyed, keyed-most}

@@ -1,9 +1,9 @@
 use mathlib.Core.Path.{_≡_, ap}
 use mathlib.Core.List.{map}
-use Prim.Native.Nat.{ℕ, _+_, _*_, _/_, _≤_, _<_}
+use Prim.Native.Nat.{_*_, _/_, _≤_, _<_}
 use native.Mathlib.Omega.{arith}
 use borrow.Author.Needs.{needs}
-use lib.ListN.{length, drop}
+use lib.ListN.{length}
 use Rattle.blake2.specs.Width.{blockSize}
 use Rattle.stream.proofs.Chains.{block-within, chain-turn, chain-done}
 use Rattle.stream.proofs.chain.chain.Needs as need

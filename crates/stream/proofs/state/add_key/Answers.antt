@@ -1,11 +1,10 @@
-use mathlib.Core.Path.{_≡_, sym, ap, _∙_}
+use mathlib.Core.Path.{_≡_, ap, _∙_}
 use mathlib.Core.List.{_++_}
-use Prim.Native.Nat.{ℕ, _-_, _*_, _≤_, _<_}
+use Prim.Native.Nat.{ℕ, _-_, _*_, _<_}
 use lib.ListN.{length, take, replicate}
 use native.Mathlib.Omega.{arith}
 use borrow.Author.Needs.{needs}
 use Rattle.std.proofs.shelf.Lists.{length-take-le}
-use Rattle.blake2.specs.Width.{blockSize}
 use Rattle.stream.specs.States.{meaning}
 use Rattle.stream.proofs.Keys.{keyed, length-keyBlock}
 use Rattle.stream.proofs.state.add_key.Needs as need

@@ -1,10 +1,9 @@
-use mathlib.Core.Path.{_≡_, sym, ap, _∙_}
+use mathlib.Core.Path.{sym, ap, _∙_}
 use mathlib.Core.List.{List}
 use Prim.Native.Nat.{ℕ}
-use lib.ListN.{length, set}
-use native.Mathlib.Omega.{arith}
+use lib.ListN.{set}
 use borrow.Author.Needs.{needs}
-use Rattle.stream.proofs.Zeros.{zeroed, zeroed-none, zeroed-more, zeroed-all}
+use Rattle.stream.proofs.Zeros.{zeroed-none, zeroed-more, zeroed-all}
 use Rattle.stream.proofs.state.clear_from.Needs as need
 
 pub loop-i-holds : need.loop-i-holds

@@ -1,4 +1,3 @@
-use mathlib.Core.Path.{_∙_}
 use native.Mathlib.Nat.{div-div-eq-div-mul}
 use Rattle.blake2.specs.Bytes.{pad}
 use Rattle.blake2.proofs.word.Word32.bytes.Needs as need
