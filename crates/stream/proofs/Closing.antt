@@ -1,13 +1,14 @@
 -- The last bytes: the blocks before the last one, and the last one with zeros after its bytes.
 use mathlib.Core.Path.{_≡_, refl, sym, ap, _∙_}
 use mathlib.Core.Bool.{Bool, true, false}
-use mathlib.Core.List.{List, _++_}
+use mathlib.Core.List.{List, [], _++_}
 use Prim.Native.Nat.{ℕ, zero, suc, _+_, _-_, _*_, _/_, _%_, _<_, _≤_}
 use native.Mathlib.Nat.{mul-div-cancel-left, mul-suc, mul-add, mul-one, mul-comm, mul-le-mul-left, add-comm, dvd-of-mod-eq-zero, mul-dvd-mul-left, dvd-trans, div-mul-cancel}
 use native.Mathlib.Omega.{arith}
+use borrow.Rule.Slice.PartMut.{putMid}
 use lib.ListN.{length, take, drop, replicate}
 use Rattle.std.proofs.shelf.Bits.{div-below, div-add-mod', mod-below}
-use Rattle.std.proofs.shelf.Lists.{take-at, take-take, take-all, take-append-drop, take-replicate, drop-append-le, drop-take, length-append, length-take-le, length-drop, length-replicate, append-assoc}
+use Rattle.std.proofs.shelf.Lists.{take-at, take-take, take-all, take-append-drop, take-replicate, drop-append-le, drop-take, length-append, length-take-le, length-drop, length-replicate, append-assoc, append-nil, drop-all}
 use Rattle.blake2.specs.Bytes.{pad, wordsOf}
 use Rattle.blake2.specs.Compression.{compress}
 use Rattle.blake2.specs.Width.{Width, blockSize}
@@ -95,3 +96,13 @@ closed w node t f b at k m wait h h1 h2 some even full few zeros eb ea ek em e1 
 pub cleared : (n f : ℕ) (wait new : List ℕ) → length wait ≡ n → f ≤ n → new ≡ pad (length wait) (take f wait) → take f new ≡ take f wait
 unfolding pad
 cleared n f wait new full few e = ap (take f) e ∙ take-at (take f wait) _ f (length-take-le f wait (omega arith))
+
+-- zeros that were written from the place f to the end
+pub zeros-from : (f n : ℕ) (xs new : List ℕ) → f ≤ length xs → n ≡ length xs - f → new ≡ replicate n 0
+    → putMid f (length xs - f) xs new ≡ pad (length xs) (take f xs)
+unfolding pad
+zeros-from f n xs new inside size zeros =
+    let none : drop (length xs - f) (drop f xs) ≡ [] = drop-all (length xs - f) (drop f xs) (omega (arith, length-drop f xs)) in
+    let left : n ≡ length xs - length (take f xs) = omega (arith, length-take-le f xs inside) in
+    ap (λ ys. take f xs ++ (new ++ ys)) none
+    ∙ ap (λ ys. take f xs ++ ys) (append-nil new ∙ zeros ∙ ap (λ k. replicate k 0) left)

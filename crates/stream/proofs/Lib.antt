@@ -6,4 +6,3 @@ pub mod Memory
 pub mod Pieces
 pub mod Views
 pub mod Words
-pub mod Zeros

@@ -114,9 +114,8 @@ fn clear_from(wait: &mut [u8], from: usize)
     requires { ⌜ from ≤ length (now wait) ⌝ }
     ensures { λ _. ⌜ now (wait .exit) ≡ pad (length (now (wait .entry))) (take from (now (wait .entry))) ⌝ }
 {
-    for i in from..wait.len() {
-        wait[i] = 0;
-    }
+    let end = wait.len();
+    wait[from..end].fill(0);
 }
 
 // The last bytes go in: the blocks before the last one, and the last one with the zeros that stand after its bytes.

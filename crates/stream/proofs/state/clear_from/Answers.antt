@@ -1,18 +1,11 @@
-use mathlib.Core.Path.{sym, ap, _∙_}
-use mathlib.Core.List.{List}
-use Prim.Native.Nat.{ℕ}
-use lib.ListN.{set}
-use borrow.Author.Needs.{needs}
-use Rattle.stream.proofs.Zeros.{zeroed-none, zeroed-more, zeroed-all}
+use Rattle.std.proofs.shelf.Lists.{take-rest, length-drop}
+use lib.ListN.{length}
+use mathlib.Core.Path.{ap, _∙_}
+use Rattle.stream.proofs.Closing.{zeros-from}
 use Rattle.stream.proofs.state.clear_from.Needs as need
 
-pub loop-i-holds : need.loop-i-holds
-loop-i-holds c = sym (zeroed-none (c .args .wait .now) (c .args .from))
-
-pub loop-i-again : need.loop-i-again
-loop-i-again c =
-    ap (λ (xs : List ℕ). set xs (c .loop-i .i) 0) (c .loop-i .inv)
-    ∙ zeroed-more (c .args .wait .now) (c .args .from) (c .loop-i .i) (search needs) (search needs)
-
 pub returns : need.returns
-returns c = c .loop-i .inv ∙ zeroed-all (c .args .wait .now) (c .args .from) (c .loop-i .i) (c .pre) (search needs)
+returns c =
+    let wait = c .args .wait .now in
+    let from = c .args .from in
+    zeros-from from _ wait (c .fill .last .self) (c .pre) (ap length (take-rest wait from) ∙ length-drop from wait) (c .fill .ensures .after (λ y same. same))
