@@ -5,11 +5,11 @@ use crate::failure::FailureFromAlloc;
 use crate::failure::FailureFromFault;
 use crate::failure::FailureFromIo;
 use crate::options::DigestOptions;
-use crate::output::hex;
 use blake2::Variant;
 use blake2::Word;
 use blake2::Word32;
 use blake2::Word64;
+use bytes::hex_string;
 use std::fs;
 use std::fs::File;
 use std::io::Read;
@@ -32,7 +32,7 @@ pub fn run(rt: &LibcRuntime, options: &DigestOptions) -> Result<(), Failure> {
         }
     }
     if failed {
-        return Err(Failure::Files);
+        return Err(Failure::Told);
     }
     Ok(())
 }
@@ -51,14 +51,14 @@ fn print_line(
             Stream::<u64>::check(n, key)?;
             let mut digest = vec![in heap; 0u8; n]?;
             digest_file(rt, Stream::<u64>::begin(n, key), file, &mut digest)?;
-            hex(heap, &digest)?
+            hex_string(heap, &digest)?
         }
         Variant::S => {
             let n = options.bytes.unwrap_or(32);
             Stream::<u32>::check(n, key)?;
             let mut digest = vec![in heap; 0u8; n]?;
             digest_file(rt, Stream::<u32>::begin(n, key), file, &mut digest)?;
-            hex(heap, &digest)?
+            hex_string(heap, &digest)?
         }
     };
     println!(rt, "{text}  {file}")?;

@@ -3,9 +3,9 @@ use crate::failure::Failure;
 use crate::failure::FailureFromAlloc;
 use crate::failure::FailureFromFault;
 use crate::failure::FailureFromIo;
-use crate::output::hex;
 use blake2::Word32;
 use blake2::Word64;
+use bytes::hex_string;
 use fault::FaultDisplay;
 use stream::Stream;
 
@@ -30,7 +30,7 @@ pub fn run(rt: &LibcRuntime) -> Result<(), Failure> {
 fn whole(rt: &LibcRuntime) -> Result<(), Failure> {
     let mut digest = [0u8; 32];
     let blocks = stream::digest::<u64>(32, &[], LAYOUT, &mut digest)?;
-    let text = hex(rt.alloc(), &digest)?;
+    let text = hex_string(rt.alloc(), &digest)?;
     println!(rt, "  BLAKE2b  {text}  {blocks} compression")?;
     Ok(())
 }
@@ -41,7 +41,7 @@ fn pieces(rt: &LibcRuntime) -> Result<(), Failure> {
     stream.add(b"CLUTCH")?;
     stream.add(b"-07")?;
     let blocks = stream.finish(&mut digest)?;
-    let text = hex(rt.alloc(), &digest)?;
+    let text = hex_string(rt.alloc(), &digest)?;
     println!(rt, "  BLAKE2b  {text}  {blocks} compression")?;
     Ok(())
 }
@@ -49,7 +49,7 @@ fn pieces(rt: &LibcRuntime) -> Result<(), Failure> {
 fn keyed(rt: &LibcRuntime) -> Result<(), Failure> {
     let mut digest = [0u8; 16];
     let blocks = stream::digest::<u32>(16, b"bench 4", LAYOUT, &mut digest)?;
-    let text = hex(rt.alloc(), &digest)?;
+    let text = hex_string(rt.alloc(), &digest)?;
     println!(rt, "  BLAKE2s  {text}  {blocks} compressions")?;
     Ok(())
 }

@@ -13,8 +13,8 @@ pub enum Failure {
     // A file could not be read, or a line not be written.
     File(io::Error),
     Memory,
-    // Some of the files failed, and were named when they did.
-    Files,
+    // What is wrong was printed already.
+    Told,
     // The words of the command line do not fit together.
     Usage(&'static str),
 }
@@ -25,7 +25,7 @@ pub impl fmt::Display for Failure as FailureDisplay {
             Failure::Refused(fault) => write!(f, "refused {fault}"),
             Failure::File(error) => write!(f, "{error}"),
             Failure::Memory => write!(f, "there is not enough memory"),
-            Failure::Files => write!(f, "not every file could be digested"),
+            Failure::Told => write!(f, "see above"),
             Failure::Usage(text) => write!(
                 f,
                 "{text}; 'sealbench help' lists commands and options"

@@ -3,8 +3,8 @@ mod digest;
 mod example;
 mod failure;
 mod help;
+mod labels;
 mod options;
-mod output;
 
 use failure::Failure;
 use failure::FailureDisplay;
@@ -15,11 +15,14 @@ use std::env;
 use std::error::AnyError;
 
 fn main(rt: LibcRuntime) -> Result<(), AnyError> {
-    if let Err(failure) = run(&rt) {
-        eprintln!(rt, "sealbench: {failure}")?;
-        return Err("not done".into());
+    match run(&rt) {
+        Ok(()) => Ok(()),
+        Err(Failure::Told) => Err("told".into()),
+        Err(failure) => {
+            eprintln!(rt, "sealbench: {failure}")?;
+            Err("told".into())
+        }
     }
-    Ok(())
 }
 
 fn run(rt: &LibcRuntime) -> Result<(), Failure> {
@@ -32,5 +35,6 @@ fn run(rt: &LibcRuntime) -> Result<(), Failure> {
         Command::Example => example::run(rt),
         Command::Help => help::print(rt),
         Command::Digest(options) => digest::run(rt, &options),
+        Command::Label(file) => labels::run(rt, file.as_str()),
     }
 }

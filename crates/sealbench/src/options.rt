@@ -14,6 +14,8 @@ pub enum Command {
     Example,
     Help,
     Digest(DigestOptions),
+    // The label in this file.
+    Label(String),
 }
 
 // How files are digested. A length or a key that the variant does not allow is refused when a stream begins.
@@ -31,8 +33,16 @@ pub fn read(heap: Global, words: &[String]) -> Result<Command, Failure> {
     };
     match name.as_str() {
         "digest" => Ok(Command::Digest(read_digest(heap, rest)?)),
+        "label" => read_label(rest),
         "help" | "--help" | "-h" => Ok(Command::Help),
         _ => Err(Failure::Usage("there is no such command")),
+    }
+}
+
+fn read_label(words: &[String]) -> Result<Command, Failure> {
+    match words {
+        [file] => Ok(Command::Label(file.clone()?)),
+        _ => Err(Failure::Usage("label wants one file")),
     }
 }
 

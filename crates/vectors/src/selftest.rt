@@ -1,9 +1,9 @@
 // The standard's own test of an implementation: the digests of many inputs, with and without keys, digested in their turn.
-use crate::vector::hex;
 use crate::vector::report;
 use blake2::Word;
 use blake2::Word32;
 use blake2::Word64;
+use bytes::hex_string;
 use std::alloc::AllocError;
 use std::alloc::Global;
 use std::error::AnyError;
@@ -32,8 +32,8 @@ pub fn try_both(rt: &LibcRuntime) -> Result<bool, AnyError> {
         &[0, 3, 64, 65, 255, 1024],
         &mut s,
     )?;
-    let b_text = hex(heap, &b)?;
-    let s_text = hex(heap, &s)?;
+    let b_text = hex_string(heap, &b)?;
+    let s_text = hex_string(heap, &s)?;
     let b_line = format!(heap, "b, self-test: {b_text}")?;
     let s_line = format!(heap, "s, self-test: {s_text}")?;
     let b_right = report(rt, b_line.as_str(), b_text.as_str() == RESULT_B)?;

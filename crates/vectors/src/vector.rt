@@ -1,6 +1,7 @@
 // One vector: VARIANT KEY INPUT DIGEST. KEY is a number of bytes, INPUT a number of bytes or the word abc; such bytes count 0, 1, 2 and so on.
 use blake2::Word32;
 use blake2::Word64;
+use bytes::hex_string;
 use std::alloc::AllocError;
 use std::alloc::Global;
 use std::error::AnyError;
@@ -24,7 +25,7 @@ pub fn try_line(rt: &LibcRuntime, line: &str) -> Result<bool, AnyError> {
         "b" => stream::digest::<u64>(digest.len(), &key, &input, &mut digest),
         _ => stream::digest::<u32>(digest.len(), &key, &input, &mut digest),
     };
-    let text = hex(heap, &digest)?;
+    let text = hex_string(heap, &digest)?;
     let right = answer.is_ok() && text.as_str() == published;
     let (k, n) = (key.len(), input.len());
     let said = format!(heap, "{variant}, key of {k}, input of {n}: {text}")?;
@@ -48,13 +49,4 @@ fn counting(heap: Global, n: usize) -> Result<Vec<u8>, AllocError> {
         bytes.push((i % 256) as u8)?;
     }
     Ok(bytes)
-}
-
-// The bytes as hexadecimal digits.
-pub fn hex(heap: Global, bytes: &[u8]) -> Result<String, AllocError> {
-    let mut text = String::new(heap);
-    for b in bytes {
-        text.push_str(format!(heap, "{b:02x}")?.as_str())?;
-    }
-    Ok(text)
 }

@@ -1,0 +1,4 @@
+pub mod Examples
+pub mod Labels
+pub mod Meaning
+pub mod Rules
