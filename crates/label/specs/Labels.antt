@@ -5,6 +5,7 @@ use Prim.Native.Nat.{ℕ, _-_}
 use lib.Chars.{codes}
 use lib.Dec.{eqb, ltb}
 use lib.ListN.{length, drop}
+use Rattle.std.specs.Results.{isOk}
 use Rattle.std.specs.declared.option.Option.{Option}
 use Rattle.std.specs.declared.option.Option.the-variants.{Some, None}
 use Rattle.std.specs.declared.result.Result.{Result}
@@ -45,7 +46,7 @@ readLayout n variant v = formed n (cond (layoutName variant v) (Some v) None)
 abbrev pub layoutLine : ℕ → List ℕ → Variant → Line (List ℕ)
 layoutLine n name variant = record { number = n; name = name; read = readLayout n variant; write = λ v. v }
 
--- the nine lines
+-- the nine lines; a salt is held in a string of at most 16 bytes
 abbrev pub labelFormat : Format
 labelFormat =
     line (fixedLine 1 (codes "kind=seal")) λ _.
@@ -92,7 +93,7 @@ writeAnswer p out = unless (writeRows p out) (length (text p))
 
 -- The buffer afterwards: the text, and what stood behind it; where write refuses, the buffer as it was.
 abbrev pub written : Parts → List ℕ → List ℕ
-written p out = cond (ltb (length out) (length (text p))) out (text p ++ drop (length (text p)) out)
+written p out = cond (isOk (writeAnswer p out)) (text p ++ drop (length (text p)) out) out
 
 -- New: the refusal of the first part that breaks its rule, about the line that it would stand on.
 abbrev pub newRows : Parts → List Row

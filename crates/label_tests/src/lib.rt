@@ -79,9 +79,7 @@ mod tests {
             Some((Refusal::NumberRange, 7)),
         )?;
         check_eq(
-            refusal(
-                b"kind=seal\nvariant=s\ndigest=1\nkeybytes=0\nfanout=2\ndepth=2\npage=4097\n",
-            ),
+            refusal(b"kind=seal\nvariant=s\ndigest=1\nkeybytes=0\nfanout=2\ndepth=2\npage=4097\n"),
             Some((Refusal::NumberRange, 7)),
         )
     }
@@ -118,22 +116,21 @@ mod tests {
     // 871 of the changes spell another label: 14 of the digest, 9 of the key, 7 of the fanout, 7 of the depth, 30 of the page, 15 at each of the 32 digits of the salt, and 36 at each of the 9 bytes of the layout.
     #[test]
     fn a_changed_byte_is_refused_or_spells_another_label() -> Result<(), Fail> {
-        let mut text = *EXAMPLE;
-        let mut out = [0; 123];
         let mut accepted = 0u32;
         for i in 0..123 {
-            let byte = text[i];
             for c in 0..=255u8 {
+                let mut text = *EXAMPLE;
                 text[i] = c;
+                if c == EXAMPLE[i] {
+                    continue;
+                }
                 if let Ok(label) = Label::read(&text) {
+                    let mut out = [0; 123];
                     check_eq(label.write(&mut out)?, 123)?;
                     check(out == text)?;
-                    if c != byte {
-                        accepted = accepted.saturating_add(1);
-                    }
+                    accepted = accepted.saturating_add(1);
                 }
             }
-            text[i] = byte;
         }
         check_eq(accepted, 871)
     }

@@ -21,11 +21,11 @@ loop-b-again c =
     let text = string-bytes (c .loop-b .text) in
     let middle = string-bytes (c .push .last .self) in
     let first : middle ≡ text ++ (c .from .result ∷ []) =
-        pushed {was = text} (encode (c .from .result)) refl (c .in-Continue-push .was tt) (c .push .ensures .bytes)
-        ∙ ap (λ x. text ++ x) (c .push .ensures .ascii (omega (arith, c .from .ensures, c .hex-char .ensures))) in
+    pushed {was = text} (encode (c .from .result)) refl (c .in-Continue-push .was tt) (c .push .ensures .bytes)
+    ∙ ap (λ x. text ++ x) (c .push .ensures .ascii (omega (arith, c .from .ensures, c .hex-char .ensures))) in
     let second : string-bytes (c .push-in-loop-b .last .self) ≡ middle ++ (c .from-in-loop-b .result ∷ []) =
-        pushed {was = middle} (encode (c .from-in-loop-b .result)) refl (c .in-Continue-push-2 .was tt) (c .push-in-loop-b .ensures .bytes)
-        ∙ ap (λ x. middle ++ x) (c .push-in-loop-b .ensures .ascii (omega (arith, c .from-in-loop-b .ensures, c .hex-char-in-loop-b .ensures))) in
+    pushed {was = middle} (encode (c .from-in-loop-b .result)) refl (c .in-Continue-push-2 .was tt) (c .push-in-loop-b .ensures .bytes)
+    ∙ ap (λ x. middle ++ x) (c .push-in-loop-b .ensures .ascii (omega (arith, c .from-in-loop-b .ensures, c .hex-char-in-loop-b .ensures))) in
     hex-more [] (c .args .bytes .now) (c .loop-b .b-index) (c .loop-b-test .taken) (c .loop-b .inv) first second
     (c .from .ensures ∙ c .hex-char .ensures) (c .from-in-loop-b .ensures ∙ c .hex-char-in-loop-b .ensures)
 

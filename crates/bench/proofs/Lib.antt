@@ -1,0 +1,4 @@
+pub mod Extents
+pub mod Frames
+pub mod Spans
+pub mod Writes

@@ -1,0 +1,4 @@
+pub mod Benches
+pub mod Buffers
+pub mod Dumps
+pub mod Sound
