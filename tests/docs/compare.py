@@ -1,4 +1,4 @@
-"""Holds the documents to the code: the table of refusals, the promises and the functions that bear them, links, and the toolchain's line."""
+"""Holds the documents to the code: the table of refusals, the promises and the functions that bear them, the table of checks, links, and the toolchain's line."""
 import pathlib
 import re
 import sys
@@ -44,6 +44,14 @@ for crate in sorted(pathlib.Path("crates").iterdir()):
 for row in re.findall(r"^\| [^|]+ \| ([^|]+) \|", promises, re.M):
     for name in re.findall(r"`(?:\w+::)*(\w+)`", row):
         hold(name in public or name[0].isupper(), f"docs/PROMISES.md names {name}, which is no public function")
+
+# The table of checks has every crate with the number of its must-fail edits.
+checks = dict(re.findall(r"^\| `(\w+)` \| [^|]+ \| (\S+) \|$", text("docs/CHECKS.md"), re.M))
+for line in text("crates.txt").splitlines():
+    name = line.split(":")[0].strip()
+    if name and not name.startswith("#"):
+        edits = len(list(pathlib.Path("crates", name, "must-fail").glob("*.edit")))
+        hold(checks.get(name) == (str(edits) if edits else "–"), f"docs/CHECKS.md has not {name} with {edits} must-fail edits")
 
 # Links lead somewhere, and README has the line of the toolchain that proves the repository.
 for page in ["README.md", *sorted(str(p) for p in pathlib.Path("docs").glob("*.md"))]:
