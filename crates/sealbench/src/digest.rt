@@ -19,7 +19,7 @@ use stream::Stream;
 const PIECE: usize = 65536;
 
 // Digests every file, also after one that fails.
-pub fn run(rt: &LibcRuntime, options: &DigestOptions) -> Result<(), Failure> {
+pub(crate) fn run(rt: &LibcRuntime, options: &DigestOptions) -> Result<(), Failure> {
     let key = match &options.key {
         Some(file) => fs::read(rt, file.as_str())?,
         None => Vec::new(rt.alloc()),

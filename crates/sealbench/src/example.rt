@@ -11,7 +11,7 @@ use stream::Stream;
 
 const LAYOUT: &[u8; 9] = b"CLUTCH-07";
 
-pub fn run(rt: &LibcRuntime) -> Result<(), Failure> {
+pub(crate) fn run(rt: &LibcRuntime) -> Result<(), Failure> {
     println!(
         rt,
         "The layout name CLUTCH-07, digested in one piece and in two:"

@@ -16,7 +16,7 @@ Options of digest:
 
 For digest, the file - is the standard input. The status is 0 if all was done, else 1.";
 
-pub fn print(rt: &LibcRuntime) -> Result<(), Failure> {
+pub(crate) fn print(rt: &LibcRuntime) -> Result<(), Failure> {
     println!(rt, "{TEXT}")?;
     Ok(())
 }

@@ -9,7 +9,7 @@ use label::Label;
 use std::fs;
 
 // Says what the label in a file says, or which line is refused and what it should be.
-pub fn run(rt: &LibcRuntime, file: &str) -> Result<(), Failure> {
+pub(crate) fn run(rt: &LibcRuntime, file: &str) -> Result<(), Failure> {
     let text = fs::read(rt, file)?;
     match Label::read(&text) {
         Ok(label) => print(rt, &label),

@@ -27,7 +27,7 @@ pub struct DigestOptions {
     pub files: Vec<String>,
 }
 
-pub fn read(heap: Global, words: &[String]) -> Result<Command, Failure> {
+pub(crate) fn read(heap: Global, words: &[String]) -> Result<Command, Failure> {
     let [name, rest @ ..] = words else {
         return Ok(Command::Example);
     };

@@ -14,7 +14,7 @@ const RESULT_B: &str = "c23a7800d98123bd10f506c61e29da5603d763b8bbad2e737f5e765a
 const RESULT_S: &str = "6a411f08ce25adcdfb02aba641451cec53c598b24f4fc787fbdc88797f4c1dfe";
 
 // Prints both results with the verdict, and says whether both are right.
-pub fn try_both(rt: &LibcRuntime) -> Result<bool, AnyError> {
+pub(crate) fn try_both(rt: &LibcRuntime) -> Result<bool, AnyError> {
     let heap = rt.alloc();
     let mut b = [0u8; 32];
     let mut s = [0u8; 32];

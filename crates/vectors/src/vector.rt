@@ -7,7 +7,7 @@ use std::alloc::Global;
 use std::error::AnyError;
 
 // Prints the vector's digest and the verdict, and says whether it is right.
-pub fn try_line(rt: &LibcRuntime, line: &str) -> Result<bool, AnyError> {
+pub(crate) fn try_line(rt: &LibcRuntime, line: &str) -> Result<bool, AnyError> {
     let heap = rt.alloc();
     let mut words = line.split_whitespace();
     let variant = words.next().ok_or("the variant is missing")?;
@@ -33,7 +33,7 @@ pub fn try_line(rt: &LibcRuntime, line: &str) -> Result<bool, AnyError> {
 }
 
 // Prints a digest with the verdict, and hands the verdict on.
-pub fn report(rt: &LibcRuntime, digest: &str, right: bool) -> Result<bool, AnyError> {
+pub(crate) fn report(rt: &LibcRuntime, digest: &str, right: bool) -> Result<bool, AnyError> {
     if right {
         println!(rt, "{digest} as published")?;
     } else {
