@@ -1,5 +1,7 @@
 // The core of BLAKE2, for 64-bit words (BLAKE2b) and 32-bit words (BLAKE2s): the compression function and the words that it works on.
 // It is written and proved once, over the trait `Word`.
+#![tactic(auto)]
+
 mod compression;
 mod schedule;
 pub mod variant;

@@ -1,4 +1,6 @@
 // BLAKE2b and BLAKE2s as node hashes.
+#![tactic(auto)]
+
 mod examples;
 pub mod node;
 mod parameters;

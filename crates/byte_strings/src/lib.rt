@@ -1,4 +1,6 @@
 // Byte strings of at most N bytes, held in place, and numbers and bytes as decimal and hexadecimal text.
+#![tactic(auto)]
+
 pub mod bytes;
 mod decimal;
 mod hexadecimal;

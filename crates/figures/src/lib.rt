@@ -1,4 +1,6 @@
 // Known figures of trees, as the definitions give them.
+#![tactic(auto)]
+
 ghost use Rattle.std.specs.Prelude.{◌≡◌, ℕ, ◌*◌, ◌≤◌, [], ◌∷◌, Ok, Err};
 ghost use Rattle.bench.specs.Buffers.{extent_over};
 ghost use Rattle.fault.specs.Faults.{fault};

@@ -1,4 +1,6 @@
 // Images: pages of bytes, whatever holds them.
+#![tactic(auto)]
+
 pub mod checks;
 pub mod extent;
 pub mod interface;

@@ -1,4 +1,6 @@
 // Images of every kind, through the interface that all have.
+#![tactic(auto)]
+
 #[cfg(test)]
 mod tests {
     use bench::{BenchImage, ChipDump};

@@ -1,4 +1,6 @@
 // The label of a seal: what its tree is hashed with, and the nine lines of text that say it.
+#![tactic(auto)]
+
 mod equality;
 mod examples;
 pub mod label;

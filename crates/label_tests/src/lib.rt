@@ -1,4 +1,6 @@
 // Texts that are tried on the reader and the writer of labels.
+#![tactic(auto)]
+
 #[cfg(test)]
 mod tests {
     use blake2::Variant;

@@ -1,4 +1,6 @@
 // Node hashes: what gives each node of a tree its digest.
+#![tactic(auto)]
+
 pub mod interface;
 
 pub use interface::NodeHash;

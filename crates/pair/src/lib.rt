@@ -1,4 +1,6 @@
 // Two images as one.
+#![tactic(auto)]
+
 pub mod pair;
 
 pub use pair::Pair;

@@ -1,4 +1,6 @@
 // The C interface: numbers and byte buffers in, a number out. include/puligastru.h declares it.
+#![tactic(auto)]
+
 ghost use Rattle.std.specs.Prelude.{◌≡◌, length};
 ghost use Rattle.blake2.specs.Width.{width_of};
 ghost use Rattle.puligastru.specs.Numbers.{variant_of, status_of};

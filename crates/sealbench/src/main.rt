@@ -1,4 +1,6 @@
 // sealbench, the command line of Puligastru.
+#![tactic(auto)]
+
 mod digest;
 mod example;
 mod failure;

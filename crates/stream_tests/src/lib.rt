@@ -1,4 +1,6 @@
 // Tests of the streams: what is proved, seen once at work.
+#![tactic(auto)]
+
 #[cfg(test)]
 mod tests {
     use fault::{Fault, Refusal};

@@ -1,4 +1,6 @@
 // Digests published vectors, and says of each whether it comes out as published. The vectors come on standard input, a line each.
+#![tactic(auto)]
+
 use anyhow::anyhow;
 
 mod selftest;

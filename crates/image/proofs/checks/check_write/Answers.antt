@@ -5,5 +5,5 @@ use Rattle.image.proofs.checks.check_write.Goals as goal
 pub returns : goal.returns
 returns g c =
     let i = c.args.image.now in
-    c.check-write.ensures
-    ∙ write-by (g.I.Image.meaning i) (g.I.Image.sound i) c.extent.result c.args.page c.args.len c.extent.ensures _ _ c.is-readable.ensures c.is-locked.ensures
+    c.check_write.ensures
+    ∙ write-by (g.I.Image.meaning i) (g.I.Image.sound i) c.extent.result c.args.page c.args.len c.extent.ensures _ _ c.is_readable.ensures c.is_locked.ensures

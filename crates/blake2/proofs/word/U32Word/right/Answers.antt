@@ -4,4 +4,4 @@ use Rattle.blake2.proofs.Rotate.{rotated}
 use Rattle.blake2.proofs.word.U32Word.right.Goals as goal
 
 pub returns : goal.returns
-returns c = c.rotate-right.ensures ∙ rotated blake2s c.args.by c.args.self (omega arith) (search rules)
+returns c = c.rotate_right.ensures ∙ rotated blake2s c.args.by c.args.self (omega arith) (search rules)

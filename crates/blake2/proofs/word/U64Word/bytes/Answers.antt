@@ -5,4 +5,4 @@ use Rattle.blake2.proofs.word.U64Word.bytes.Goals as goal
 
 pub returns : goal.returns
 unfolding pad
-returns c = c.to-le-bytes.ensures ∙ simp div-div-eq-div-mul
+returns c = c.to_le_bytes.ensures ∙ simp div-div-eq-div-mul

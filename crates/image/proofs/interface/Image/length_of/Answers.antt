@@ -7,6 +7,6 @@ use Rattle.image.proofs.interface.Image.length_of.Goals as goal
 pub returns : goal.returns
 returns g c =
     let i = c.args.self.now in
-    c.length-of.ensures
+    c.length_of.ensures
     ∙ ap (λ (e : Extent). length_in e c.args.page) c.extent.ensures
     ∙ length_in_lem (g.Self.Image.meaning i) (g.Self.Image.sound i) c.args.page
