@@ -1,9 +1,10 @@
 // Making, reading and extending a byte string.
-ghost use Rattle.std.specs.Prelude.{◌≡◌, ◌+◌, ◌<◌, [], ◌∷◌, ◌++◌, length, Decides, nat_le};
+ghost use Rattle.std.specs.Prelude.{◌≡◌, ◌+◌, ◌<◌, [], ◌∷◌, ◌++◌, length, Decides, nat_eq, nat_le};
 ghost use Rattle.byte_strings.specs.Strings.{listed, listing, within, appended};
 ghost use Rattle.std.specs.Cmp.Rules.{comparing};
-ghost use Rattle.std.proofs.Common.{rules, arith};
-ghost use Rattle.std.specs.Cmp as Keys;
+ghost use Rattle.std.proofs.Common.{rules};
+ghost use Rattle.std.specs.Cmp.Lexicographic.{pointwise};
+ghost use Rattle.std.specs.Ordering.{on};
 
 use crate::Bytes;
 
@@ -65,15 +66,19 @@ impl<const N: usize> Bytes<N> {
 }
 
 impl<const N: usize> PartialEq for Bytes<N> {
-    ghost equals = { λ x y r. Decides r (x ≡ y) };
+    ghost eq = { on listed (pointwise nat_eq) };
 
-    ghost laws = { Keys.partial_equiv_from_equiv (first_of (Prim.search (comparing, rules), Prim.grind (arith, Self.row.coded.inj))) };
+    ghost laws = { Prim.search (comparing, rules) };
 
-    fn eq(&self, other: &Bytes<N>) -> bool {
+    // Whether they hold the same bytes: then they are the same value.
+    fn eq(&self, other: &Bytes<N>) -> bool
+        ensures value { result ≡ on listed (pointwise nat_eq) self.now other.now }
+        ensures same { Decides result (self.now ≡ other.now) }
+    {
         self.as_slice() == other.as_slice()
     }
 }
 
 impl<const N: usize> Eq for Bytes<N> {
-    ghost laws = { first_of (Prim.search (comparing, rules), Prim.grind (arith, Self.row.coded.inj)) };
+    ghost laws = { Prim.search (comparing, rules) };
 }

@@ -6,14 +6,14 @@ pub returns-in-B : goal.returns-in-B
 returns-in-B c =
     let a = c.args in
     record {
-      status = status-by B a.variant c.in-B.ensures a.digest-bytes a.key.now a.input.now a.out.now _ _ c.status-of.ensures c.digest.ensures.answer;
-      out = out-by B a.variant c.in-B.ensures a.digest-bytes a.key.now a.input.now a.out.now _ c.digest.ensures.out;
+      status = status-by B a.variant c.in-B.ensures a.digest_bytes a.key.now a.input.now a.out.now _ _ c.status_of.ensures c.digest.ensures.answer;
+      out = out-by B a.variant c.in-B.ensures a.digest_bytes a.key.now a.input.now a.out.now _ c.digest.ensures.out;
     }
 
 pub returns-in-S : goal.returns-in-S
 returns-in-S c =
     let a = c.args in
     record {
-      status = status-by S a.variant c.in-S.ensures a.digest-bytes a.key.now a.input.now a.out.now _ _ c.status-of-in-S.ensures c.digest-in-S.ensures.answer;
-      out = out-by S a.variant c.in-S.ensures a.digest-bytes a.key.now a.input.now a.out.now _ c.digest-in-S.ensures.out;
+      status = status-by S a.variant c.in-S.ensures a.digest_bytes a.key.now a.input.now a.out.now _ _ c.status_of-in-S.ensures c.digest-in-S.ensures.answer;
+      out = out-by S a.variant c.in-S.ensures a.digest_bytes a.key.now a.input.now a.out.now _ c.digest-in-S.ensures.out;
     }

@@ -5,5 +5,5 @@ use Rattle.blake2_node.proofs.parameters.put.Goals as goal
 pub returns : goal.returns
 returns c = record {
   next = refl;
-  after = λ front here zeros. put_after 64 _ c.args.at front c.args.field.now c.args.block.now c.copy-from-slice.new.self c.requires here zeros (omega arith) c.copy-from-slice.ensures.after;
+  after = λ front here zeros. put_after 64 _ c.args.at front c.args.field.now c.args.block.now c.copy_from_slice.new.self c.requires here zeros (omega arith) c.copy_from_slice.ensures.after;
 }

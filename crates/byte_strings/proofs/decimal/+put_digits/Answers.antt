@@ -14,15 +14,15 @@ returns-then-n-lt10 t c =
       bytes = c.push.ensures.bytes ∙ ap (λ l. listed c.args.out.now ++ l) (sym (decimal_digit c.args.n c.if-n-lt10.true));
     }
 
-pub put-digits-requires : goal.put-digits-requires
-put-digits-requires t c = omega (arith, digits-length c.args.n (omega arith) (omega arith))
+pub put_digits-requires : goal.put_digits-requires
+put_digits-requires t c = omega (arith, digits-length c.args.n (omega arith) (omega arith))
 
 pub push-requires-2 : goal.push-requires-2
-push-requires-2 t c = (lit< tt, omega (arith, c.put-digits.ensures.len, digits-length c.args.n (omega arith) (omega arith)))
+push-requires-2 t c = (lit< tt, omega (arith, c.put_digits.ensures.len, digits-length c.args.n (omega arith) (omega arith)))
 
 pub returns : goal.returns
 returns t c =
     record {
-      len = omega (arith, c.put-digits.ensures.len, c.push-2.ensures.len, digits-length c.args.n (omega arith) (omega arith));
-      bytes = last_digit c.args.n (listed c.args.out.now) (omega arith) (omega arith) c.put-digits.ensures.bytes c.push-2.ensures.bytes;
+      len = omega (arith, c.put_digits.ensures.len, c.push-2.ensures.len, digits-length c.args.n (omega arith) (omega arith));
+      bytes = last_digit c.args.n (listed c.args.out.now) (omega arith) (omega arith) c.put_digits.ensures.bytes c.push-2.ensures.bytes;
     }

@@ -10,5 +10,5 @@ returns c =
     let a = listed c.args.out.now in
     let v = hex c.args.bytes.now in
     let n = length-hex c.args.bytes.now in
-    let e = add_line 146 a c.args.name.now v (omega (arith, c.requires)) c.append.ensures.after c.append-hex.ensures.after c.append-2.ensures.after in
+    let e = add_line 146 a c.args.name.now v (omega (arith, c.requires)) c.append.ensures.after c.append_hex.ensures.after c.append-2.ensures.after in
     record { length = omega (arith, length_line a c.args.name.now v e); bytes = e }

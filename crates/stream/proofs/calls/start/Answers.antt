@@ -7,24 +7,24 @@ use Rattle.stream.proofs.Keys.{length-keyed, keyed_most}
 use Rattle.stream.proofs.Views.{view_is}
 use Rattle.stream.proofs.calls.start.Goals as goal
 
-pub invariant-of-result : goal.invariant-of-result
-invariant-of-result g c =
+pub invariant_of-result : goal.invariant_of-result
+invariant_of-result g c =
     let sizes = g.met.W.Word.sizes in
     let most = keyed_most g.W.Word.width c.args.key.now (omega arith) in
-    (c.add-key.ensures.filled, (omega (arith, c.add-key.ensures.count), (omega arith, tt)))
+    (c.add_key.ensures.filled, (omega (arith, c.add_key.ensures.count), (omega arith, tt)))
 
 pub returns : goal.returns
 unfolding hash digest
 returns g c =
     let w = g.W.Word.width in
     let key = c.args.key.now in
-    let d = c.args.digest-len in
+    let d = c.args.digest_len in
     let whole : min d (longest w) ≡ d = omega arith in
-    let count = c.add-key.ensures.count ∙ length-keyed w key (omega arith) in
+    let count = c.add_key.ensures.count ∙ length-keyed w key (omega arith) in
     let first = initial w (sequential d (length key)) in
     view_is _ _ whole refl (λ n. ap (λ k. before w (k + n) + 1) count)
     (λ rest.
-    ap (λ k. take k (bytes_of w (meaning w g.W.Word.value c.add-key.new.s false rest))) whole
+    ap (λ k. take k (bytes_of w (meaning w g.W.Word.value c.add_key.new.s false rest))) whole
     ∙ ap (λ h. take d (bytes_of w h))
-    (c.add-key.ensures.means false rest ∙ c.begin-state.ensures.means false (key_block w key ++ rest)
+    (c.add_key.ensures.means false rest ∙ c.begin-state.ensures.means false (key_block w key ++ rest)
     ∙ ap (λ p. ended w false 0 (key_block w key ++ rest) (initial w p)) c.parameters.ensures))

@@ -3,17 +3,17 @@ use Rattle.blake2.specs.Width.{block_size}
 use Rattle.stream.proofs.Chains.{block_within, chain-turn, chain_done}
 use Rattle.stream.proofs.chain.chain.Goals as goal
 
-pub overflow-mul-at : goal.overflow-mul-at
-overflow-mul-at g c = let h = block_within (16 * c.size-b.result) (length c.args.bytes.now) c.loop-i.i c.loop-i-test.true in search rules
+pub overflow_mul-at : goal.overflow_mul-at
+overflow_mul-at g c = let h = block_within (16 * c.size-b.result) (length c.args.bytes.now) c.loop-i.i c.loop-i-test.true in search rules
 
-pub overflow-add-at : goal.overflow-add-at
-overflow-add-at g c = let h = block_within (16 * c.size-b.result) (length c.args.bytes.now) c.loop-i.i c.loop-i-test.true in search rules
+pub overflow_add-at : goal.overflow_add-at
+overflow_add-at g c = let h = block_within (16 * c.size-b.result) (length c.args.bytes.now) c.loop-i.i c.loop-i-test.true in search rules
 
-pub slice-bounds-words-end : goal.slice-bounds-words-end
-slice-bounds-words-end g c = let h = block_within (16 * c.size-b.result) (length c.args.bytes.now) c.loop-i.i c.loop-i-test.true in search rules
+pub slice_bounds-words-end : goal.slice_bounds-words-end
+slice_bounds-words-end g c = let h = block_within (16 * c.size-b.result) (length c.args.bytes.now) c.loop-i.i c.loop-i-test.true in search rules
 
-pub overflow-add-t : goal.overflow-add-t
-overflow-add-t g c = let h = block_within (16 * c.size-b.result) (length c.args.bytes.now) c.loop-i.i c.loop-i-test.true in search rules
+pub overflow_add-t : goal.overflow_add-t
+overflow_add-t g c = let h = block_within (16 * c.size-b.result) (length c.args.bytes.now) c.loop-i.i c.loop-i-test.true in search rules
 
 pub loop-i-preserved : goal.loop-i-preserved
 loop-i-preserved g c =

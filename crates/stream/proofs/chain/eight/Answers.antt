@@ -5,4 +5,4 @@ use Rattle.stream.proofs.chain.eight.Goals as goal
 pub returns : goal.returns
 returns g c =
     let size = c.size-n.ensures.0 in
-    copied g.W.Word.width.size _ c.args.at c.args.bytes.now c.copy-from-slice.new.self _ (omega arith) c.copy-from-slice.ensures.after c.requires
+    copied g.W.Word.width.size _ c.args.at c.args.bytes.now c.copy_from_slice.new.self _ (omega arith) c.copy_from_slice.ensures.after c.requires

@@ -7,8 +7,8 @@ use Rattle.stream.proofs.Filled.{filled_more, filled-all}
 use Rattle.stream.proofs.Words.{within}
 use Rattle.stream.proofs.chain.initial.Goals as goal
 
-pub word-at-requires : goal.word-at-requires
-word-at-requires g c =
+pub word_at-requires : goal.word_at-requires
+word_at-requires g c =
     within g.W.Word.width.size c.loop-i.i 8 (length c.args.p.now) c.loop-i-test.true (omega (arith, g.met.W.Word.sizes.1))
 
 pub loop-i-preserved : goal.loop-i-preserved
@@ -22,7 +22,7 @@ loop-i-preserved g c =
     let inside : i < length iv = search rules in
     let a : f (get_or iv i c.index-iv-i.result) ≡ get_or w.iv i 0 =
     sym (get_or-map f iv i _ 0 inside) ∙ ap (λ xs. get_or xs i 0) c.iv-iv.ensures in
-    let new : f c.xor.result ≡ F i = c.xor.ensures ∙ rw (a, c.word-at.ensures) in
+    let new : f c.xor.result ≡ F i = c.xor.ensures ∙ rw (a, c.word_at.ensures) in
     filled_more f F 8 c.loop-i.h i c.xor.result c.loop-i-test.true new c.loop-i.invariant
 
 pub returns : goal.returns

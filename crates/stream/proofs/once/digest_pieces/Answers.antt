@@ -7,16 +7,16 @@ use Rattle.stream.proofs.Memory.{stream_fits}
 use Rattle.stream.proofs.Pieces.{taken_none, pieces_more, begun_is, out_kept, begin_stops, add_stops, finish_answers, finish_writes}
 use Rattle.stream.proofs.once.digest_pieces.Goals as goal
 
-pub returns-in-err-check : goal.returns-in-err-check
-returns-in-err-check g c =
-    let p = err_from_is_err_and c.from-residual.result c.from-residual.ensures.1 in
+pub returns-in_err-check : goal.returns-in_err-check
+returns-in_err-check g c =
+    let p = err_from_is_err_and c.from_residual.result c.from_residual.ensures.1 in
     let key = c.args.key.now in
     let input = joined (map (λ x. x.now) c.args.pieces.now) in
     let out = c.args.out.now in
-    let stop = begin_stops g.W.Word.width c.args.digest-len (length key) (length input) (length out) c.in-err-check.field-0.0 (sym c.in-err-check.ensures) in
+    let stop = begin_stops g.W.Word.width c.args.digest_len (length key) (length input) (length out) c.in_err-check.field-0.0 (sym c.in_err-check.ensures) in
     record {
       answer = p.1 ∙ ap Err p.2 ∙ sym stop;
-      out = out_kept g.W.Word.width c.args.digest-len key input out _ stop;
+      out = out_kept g.W.Word.width c.args.digest_len key input out _ stop;
     }
 
 pub begin-stream-requires : goal.begin-stream-requires
@@ -25,16 +25,16 @@ begin-stream-requires g c = let small = g.met.W.Word.sizes.3 in stream_fits _ _ 
 pub loop-piece-init : goal.loop-piece-init
 loop-piece-init g c =
     let w = g.W.Word.width in
-    c.begin-stream.ensures ∙ begun_is w c.args.digest-len c.args.key.now (sym c.in-ok-check.ensures) ∙ taken_none (fresh w c.args.digest-len c.args.key.now)
+    c.begin-stream.ensures ∙ begun_is w c.args.digest_len c.args.key.now (sym c.in_ok-check.ensures) ∙ taken_none (fresh w c.args.digest_len c.args.key.now)
 
 pub add-requires : goal.add-requires
 add-requires g c = let small = g.met.W.Word.sizes.3 in stream_fits _ _ small.1 small.0
 
-pub returns-in-err-add : goal.returns-in-err-add
-returns-in-err-add g c =
-    let p = err_from_is_err_and c.from-residual-in-err-add.result c.from-residual-in-err-add.ensures.1 in
+pub returns-in_err-add : goal.returns-in_err-add
+returns-in_err-add g c =
+    let p = err_from_is_err_and c.from_residual-in_err-add.result c.from_residual-in_err-add.ensures.1 in
     let w = g.W.Word.width in
-    let d = c.args.digest-len in
+    let d = c.args.digest_len in
     let key = c.args.key.now in
     let i = c.loop-piece.piece-index in
     let pieces = map (λ x. x.now) c.args.pieces.now in
@@ -42,8 +42,8 @@ returns-in-err-add g c =
     let v = view_of w g.W.Word.value c.loop-piece.stream in
     let inside : i < length pieces = omega (arith, length-map c.args.pieces.now ((λ x. x.now) {X = List ℕ})) in
     let total : v.total ≡ length (joined (take i pieces)) = ap (λ u. u.total) c.loop-piece.invariant ∙ zero-add (length (joined (take i pieces))) in
-    let stop = add_stops w d (length key) (length out) i v pieces _ c.in-err-add.field-0.0 (sym c.in-ok-check.ensures) inside
-    (get_or-map (λ x. x.now) c.args.pieces.now i _ [] c.loop-piece-test.true) total (sym c.in-err-add.ensures.answer) in
+    let stop = add_stops w d (length key) (length out) i v pieces _ c.in_err-add.field-0.0 (sym c.in_ok-check.ensures) inside
+    (get_or-map (λ x. x.now) c.args.pieces.now i _ [] c.loop-piece-test.true) total (sym c.in_err-add.ensures.answer) in
     record {
       answer = p.1 ∙ ap Err p.2 ∙ sym stop;
       out = out_kept w d key (joined pieces) out _ stop;
@@ -55,8 +55,8 @@ loop-piece-preserved g c =
     let i = c.loop-piece.piece-index in
     let pieces = map (λ x. x.now) c.args.pieces.now in
     let inside : i < length pieces = omega (arith, length-map c.args.pieces.now ((λ x. x.now) {X = List ℕ})) in
-    pieces_more (fresh w c.args.digest-len c.args.key.now) (view_of w g.W.Word.value c.loop-piece.stream) _ pieces i _
-    c.in-ok-add.ensures.after (sym c.in-ok-add.ensures.answer) c.loop-piece.invariant inside
+    pieces_more (fresh w c.args.digest_len c.args.key.now) (view_of w g.W.Word.value c.loop-piece.stream) _ pieces i _
+    c.in_ok-add.ensures.after (sym c.in_ok-add.ensures.answer) c.loop-piece.invariant inside
     (get_or-map (λ x. x.now) c.args.pieces.now i _ [] c.loop-piece-test.true)
 
 pub finish-requires : goal.finish-requires
@@ -65,11 +65,11 @@ finish-requires g c = let small = g.met.W.Word.sizes.3 in stream_fits _ _ small.
 pub returns : goal.returns
 returns g c =
     let w = g.W.Word.width in
-    let d = c.args.digest-len in
+    let d = c.args.digest_len in
     let key = c.args.key.now in
     let pieces = map (λ x. x.now) c.args.pieces.now in
     let v = view_of w g.W.Word.value c.loop-piece.stream in
-    let ok = sym c.in-ok-check.ensures in
+    let ok = sym c.in_ok-check.ensures in
     let whole : take c.loop-piece.piece-index pieces ≡ pieces = take_all c.loop-piece.piece-index pieces (omega (arith, length-map c.args.pieces.now ((λ x. x.now) {X = List ℕ}))) in
     let all : v ≡ taken (fresh w d key) (joined pieces) = c.loop-piece.invariant ∙ ap (λ xs. taken (fresh w d key) (joined xs)) whole in
     let short : length (joined pieces) ≤ 2 ^ 40 = let t = ap (λ u. u.total) all in let limit = c.loop-piece.stream.limit in omega arith in

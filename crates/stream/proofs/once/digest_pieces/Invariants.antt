@@ -7,4 +7,4 @@ use Rattle.stream.proofs.once.digest_pieces.Given as goal
 abbrev pub invariant-loop-piece : goal.invariant-loop-piece
 invariant-loop-piece g l =
     let w = g.W.Word.width in
-    view_of w g.W.Word.value l.stream ≡ taken (fresh w l.digest-len l.key) (joined (take l.piece-index (map (λ x. x.now) l.pieces)))
+    view_of w g.W.Word.value l.stream ≡ taken (fresh w l.digest_len l.key) (joined (take l.piece-index (map (λ x. x.now) l.pieces)))

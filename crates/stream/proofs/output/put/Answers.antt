@@ -8,5 +8,5 @@ returns g c =
     let n = length c.args.out.now in
     let all = c.spelled-all.result in
     let from : n - 0 ≡ n = omega arith in
-    c.copy-from-slice.ensures.after ∙ ap (λ k. take k all) from
+    c.copy_from_slice.ensures.after ∙ ap (λ k. take k all) from
     ∙ sym (take-take n (longest g.W.Word.width) all c.requires) ∙ ap (take n) c.spelled-all.ensures

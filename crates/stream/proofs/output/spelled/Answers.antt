@@ -8,8 +8,8 @@ pub loop-i-init : goal.loop-i-init
 unfolding bytes_of
 loop-i-init g c = (refl, take_none _ _ (mul-zero g.W.Word.width.size), λ none. absurd (omega arith))
 
-pub slice-bounds-all-end : goal.slice-bounds-all-end
-slice-bounds-all-end g c =
+pub slice_bounds-all-end : goal.slice_bounds-all-end
+slice_bounds-all-end g c =
     let h = within c.size-n.result c.loop-i.i 8 64 c.loop-i-test.true (omega arith) in search rules
 
 pub loop-i-preserved : goal.loop-i-preserved
@@ -20,9 +20,9 @@ loop-i-preserved g c =
     let h = c.args.h.now in
     let inside : i < length h = search rules in
     let room = within c.size-n.result i 8 64 c.loop-i-test.true (omega arith) in
-    let more = spelled_more w i (c.size-n.result * i) _ _ c.loop-i.all c.copy-from-slice.new.self c.bytes-word.result (map f h) _
+    let more = spelled_more w i (c.size-n.result * i) _ _ c.loop-i.all c.copy_from_slice.new.self c.bytes-word.result (map f h) _
     (omega (arith, length-map h f)) (get_or-map f h i _ 0 inside) (ap (λ n. n * i) c.size-n.ensures.0) (omega (arith, c.loop-i.invariant.0)) (omega arith) (omega arith)
-    c.bytes-word.ensures c.copy-from-slice.ensures.after c.loop-i.invariant.1 in
+    c.bytes-word.ensures c.copy_from_slice.ensures.after c.loop-i.invariant.1 in
     (more.0 ∙ c.loop-i.invariant.0, more.1, λ _. search rules)
 
 pub returns : goal.returns

@@ -14,8 +14,8 @@ returns g c = record {
   means = λ node rest.
       let s = c.args.s.now in
       let part = c.args.part.now in
-      let new = c.copy-from-slice.new.self in
-      let same : new ≡ part = c.copy-from-slice.ensures.after in
+      let new = c.copy_from_slice.new.self in
+      let same : new ≡ part = c.copy_from_slice.ensures.after in
       let long : s.filled ≤ length s.wait = search rules in
       let joins : take (s.filled + length part) (put_mid s.filled (s.filled + length part - s.filled) s.wait new) ≡ take s.filled s.wait ++ part =
       take-put_mid s.filled _ s.wait new (s.filled + length part) (ap (λ (xs : List _). s.filled + length xs) (sym same)) long

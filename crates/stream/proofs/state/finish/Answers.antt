@@ -12,9 +12,9 @@ close-requires g c =
     let s = c.args.s in
     let size = g.met.W.Word.sizes.3.0 in
     let long : length s.wait ≡ 128 = search rules in
-    let new = c.clear-from.new.wait in
-    let clear : new ≡ pad 128 (take s.filled s.wait) = c.clear-from.ensures ∙ ap (λ n. pad n (take s.filled s.wait)) long in
-    let same : take s.filled new ≡ take s.filled s.wait = cleared 128 s.filled s.wait new long c.requires.0 c.clear-from.ensures in
+    let new = c.clear_from.new.wait in
+    let clear : new ≡ pad 128 (take s.filled s.wait) = c.clear_from.ensures ∙ ap (λ n. pad n (take s.filled s.wait)) long in
+    let same : take s.filled new ≡ take s.filled s.wait = cleared 128 s.filled s.wait new long c.requires.0 c.clear_from.ensures in
     (omega arith, (search rules, (c.requires.0, (c.requires.1.0, clear ∙ ap (pad 128) (sym same)))))
 
 pub returns : goal.returns
@@ -23,7 +23,7 @@ returns g c =
     let s = c.args.s in
     let w = g.W.Word.width in
     let long : length s.wait ≡ 128 = search rules in
-    let same = cleared 128 s.filled s.wait c.clear-from.new.wait long c.requires.0 c.clear-from.ensures in
+    let same = cleared 128 s.filled s.wait c.clear_from.new.wait long c.requires.0 c.clear_from.ensures in
     c.put.ensures
     ∙ ap (λ h. take (length c.args.out.now) (bytes_of w h))
     (c.close.ensures

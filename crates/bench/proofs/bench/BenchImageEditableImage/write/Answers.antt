@@ -8,38 +8,38 @@ use Rattle.bench.proofs.Spans.{span}
 use Rattle.bench.proofs.Writes.{bench_written}
 use Rattle.bench.proofs.bench.BenchImageEditableImage.write.Goals as goal
 
-pub overflow-mul-at : goal.overflow-mul-at
-overflow-mul-at c =
+pub overflow_mul-at : goal.overflow_mul-at
+overflow_mul-at c =
     let b = c.args.self.now in
     let buffer = b.buffer.now in
     let page = c.args.page in
     let bytes = c.args.bytes.now in
     let m = bench_made b.size b.locked buffer in
-    let good : is_ok (write_answer m page (length bytes)) ≡ true = sym (ap is_ok c.check-write-answer.ensures) ∙ c.if-is-err.ensures.negation in
+    let good : is_ok (write_answer m page (length bytes)) ≡ true = sym (ap is_ok c.check_write-answer.ensures) ∙ c.if-is_err.ensures.negation in
     let t = write_tells m page (length bytes) good in
     let s = span (is_ok (bench_answer b.size b.locked (length buffer))) b.size (bench_state b.locked) buffer (bench_sound b.size b.locked buffer) page (length bytes) t.0 t.1 in
     search rules
 
-pub overflow-add-end : goal.overflow-add-end
-overflow-add-end c =
+pub overflow_add-end : goal.overflow_add-end
+overflow_add-end c =
     let b = c.args.self.now in
     let buffer = b.buffer.now in
     let page = c.args.page in
     let bytes = c.args.bytes.now in
     let m = bench_made b.size b.locked buffer in
-    let good : is_ok (write_answer m page (length bytes)) ≡ true = sym (ap is_ok c.check-write-answer.ensures) ∙ c.if-is-err.ensures.negation in
+    let good : is_ok (write_answer m page (length bytes)) ≡ true = sym (ap is_ok c.check_write-answer.ensures) ∙ c.if-is_err.ensures.negation in
     let t = write_tells m page (length bytes) good in
     let s = span (is_ok (bench_answer b.size b.locked (length buffer))) b.size (bench_state b.locked) buffer (bench_sound b.size b.locked buffer) page (length bytes) t.0 t.1 in
     search rules
 
-pub slice-bounds-copy-from-slice-end : goal.slice-bounds-copy-from-slice-end
-slice-bounds-copy-from-slice-end c =
+pub slice_bounds-copy_from_slice-end : goal.slice_bounds-copy_from_slice-end
+slice_bounds-copy_from_slice-end c =
     let b = c.args.self.now in
     let buffer = b.buffer.now in
     let page = c.args.page in
     let bytes = c.args.bytes.now in
     let m = bench_made b.size b.locked buffer in
-    let good : is_ok (write_answer m page (length bytes)) ≡ true = sym (ap is_ok c.check-write-answer.ensures) ∙ c.if-is-err.ensures.negation in
+    let good : is_ok (write_answer m page (length bytes)) ≡ true = sym (ap is_ok c.check_write-answer.ensures) ∙ c.if-is_err.ensures.negation in
     let t = write_tells m page (length bytes) good in
     let s = span (is_ok (bench_answer b.size b.locked (length buffer))) b.size (bench_state b.locked) buffer (bench_sound b.size b.locked buffer) page (length bytes) t.0 t.1 in
     search rules
@@ -51,12 +51,12 @@ returns c =
     let page = c.args.page in
     let bytes = c.args.bytes.now in
     let m = bench_made b.size b.locked buffer in
-    let good : is_ok (write_answer m page (length bytes)) ≡ true = sym (ap is_ok c.check-write-answer.ensures) ∙ c.if-is-err.ensures.negation in
+    let good : is_ok (write_answer m page (length bytes)) ≡ true = sym (ap is_ok c.check_write-answer.ensures) ∙ c.if-is_err.ensures.negation in
     let t = write_tells m page (length bytes) good in
     let s = span (is_ok (bench_answer b.size b.locked (length buffer))) b.size (bench_state b.locked) buffer (bench_sound b.size b.locked buffer) page (length bytes) t.0 t.1 in
     record {
-      answer = sym (ok_is _ c.if-is-err.ensures.negation) ∙ c.check-write-answer.ensures;
-      after = bench_written b.size b.locked buffer page bytes _ t.0 s c.copy-from-slice.ensures.after ∙ sym (write_done m page bytes good);
+      answer = sym (ok_is _ c.if-is_err.ensures.negation) ∙ c.check_write-answer.ensures;
+      after = bench_written b.size b.locked buffer page bytes _ t.0 s c.copy_from_slice.ensures.after ∙ sym (write_done m page bytes good);
       frame = refl;
       kept = λ x. absurd (true≢false x);
     }

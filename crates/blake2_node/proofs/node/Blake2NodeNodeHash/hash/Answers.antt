@@ -14,13 +14,13 @@ returns g c =
     let out = c.args.out.now in
     let short : length input ≤ 4096 = c.if-input-gt-LONGEST-INPUT.false in
     let long : length out ≡ l.digest = omega (arith, c.if-out-from.false, c.from.ensures) in
-    let fit = sym c.if-not-is-fit.ensures in
-    let k = c.key-at.result.now in
+    let fit = sym c.if-not-is_fit.ensures in
+    let k = c.key_at.result.now in
     let answer : c.hash.result ≡ stream.hash_answer w (length k) (length input) (length out) = c.hash.ensures.answer in
-    let after : c.hash.new.out ≡ stream.hash_out w c.args.last c.parameter-block-parameters.result k input out = c.hash.ensures.out in
+    let after : c.hash.new.out ≡ stream.hash_out w c.args.last c.parameter_block-parameters.result k input out = c.hash.ensures.out in
     record {
-      answer = answer ∙ ap (λ k. stream.hash_answer w (length k) (length input) (length out)) c.key-at.ensures ∙ answered w l key depth (length input) (length out) short long fit;
+      answer = answer ∙ ap (λ k. stream.hash_answer w (length k) (length input) (length out)) c.key_at.ensures ∙ answered w l key depth (length input) (length out) short long fit;
       out =
-          after ∙ (λ i. stream.hash_out w c.args.last (c.parameter-block-parameters.ensures i) (c.key-at.ensures i) input out)
+          after ∙ (λ i. stream.hash_out w c.args.last (c.parameter_block-parameters.ensures i) (c.key_at.ensures i) input out)
           ∙ written w l key depth c.args.offset c.args.last input out short long fit;
     }

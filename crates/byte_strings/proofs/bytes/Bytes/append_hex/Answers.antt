@@ -19,7 +19,7 @@ returns-then-bytes-self g c =
 pub loop-b-preserved : goal.loop-b-preserved
 loop-b-preserved g c = (
   omega (arith, c.push.ensures.len, c.push-in-loop-b.ensures.len, c.loop-b.invariant.0),
-  hex_more (listed c.args.self.now) c.args.bytes.now c.loop-b.b-index c.loop-b-test.true c.loop-b.invariant.1 c.push.ensures.bytes c.push-in-loop-b.ensures.bytes c.hex-char.ensures c.hex-char-in-loop-b.ensures,
+  hex_more (listed c.args.self.now) c.args.bytes.now c.loop-b.b-index c.loop-b-test.true c.loop-b.invariant.1 c.push.ensures.bytes c.push-in-loop-b.ensures.bytes c.hex_char.ensures c.hex_char-in-loop-b.ensures,
 )
 
 pub returns : goal.returns

@@ -17,20 +17,20 @@ loop-i-init g c = (
   ap (λ bs. unhex bs c.args.digits.now) c.new-bytes.ensures,
 )
 
-pub returns-in-default : goal.returns-in-default
-returns-in-default g c =
+pub returns-in_default : goal.returns-in_default
+returns-in_default g c =
     let v = c.args.digits.now in
-    sym (hex_within-none g.row.N v (sym c.loop-i.invariant.1 ∙ unhex-stop-high v c.loop-i.i (omega arith) (listed c.loop-i.bytes) c.in-default.ensures))
+    sym (hex_within-none g.row.N v (sym c.loop-i.invariant.1 ∙ unhex-stop-high v c.loop-i.i (omega arith) (listed c.loop-i.bytes) c.in_default.ensures))
 
-pub returns-in-default-hex-digit : goal.returns-in-default-hex-digit
-returns-in-default-hex-digit g c =
+pub returns-in_default-hex_digit : goal.returns-in_default-hex_digit
+returns-in_default-hex_digit g c =
     let v = c.args.digits.now in
-    sym (hex_within-none g.row.N v (sym c.loop-i.invariant.1 ∙ unhex-stop-low v c.loop-i.i (omega arith) (listed c.loop-i.bytes) c.in-default-hex-digit.ensures))
+    sym (hex_within-none g.row.N v (sym c.loop-i.invariant.1 ∙ unhex-stop-low v c.loop-i.i (omega arith) (listed c.loop-i.bytes) c.in_default-hex_digit.ensures))
 
 pub loop-i-preserved : goal.loop-i-preserved
 loop-i-preserved g c = (
   omega (arith, c.push.ensures.len, c.loop-i.invariant.0),
-  ap (λ bs. unhex bs (drop (2 * (c.loop-i.i + 1)) c.args.digits.now)) c.push.ensures.bytes ∙ sym (unhex-more c.args.digits.now c.loop-i.i (omega arith) (listed c.loop-i.bytes) c.in-Some.high c.in-Some-hex-digit.low c.in-Some.ensures.0 c.in-Some.ensures.1 c.in-Some-hex-digit.ensures.0 c.in-Some-hex-digit.ensures.1) ∙ c.loop-i.invariant.1,
+  ap (λ bs. unhex bs (drop (2 * (c.loop-i.i + 1)) c.args.digits.now)) c.push.ensures.bytes ∙ sym (unhex-more c.args.digits.now c.loop-i.i (omega arith) (listed c.loop-i.bytes) c.in-Some.high c.in-Some-hex_digit.low c.in-Some.ensures.0 c.in-Some.ensures.1 c.in-Some-hex_digit.ensures.0 c.in-Some-hex_digit.ensures.1) ∙ c.loop-i.invariant.1,
 )
 
 pub returns : goal.returns

@@ -3,4 +3,4 @@ use Rattle.label.proofs.label.Label.read_front.Goals as goal
 
 pub returns : goal.returns
 returns c =
-    record { answer = c.nine-lines.ensures; reads_what_is_written = front_inverse c.nine-lines.result c.args.text.now c.nine-lines.ensures }
+    record { answer = c.nine_lines.ensures; reads_what_is_written = front_inverse c.nine_lines.result c.args.text.now c.nine_lines.ensures }

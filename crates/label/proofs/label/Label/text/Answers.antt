@@ -11,13 +11,13 @@ pub returns : goal.returns
 unfolding text
 returns c =
     sym (append-nil (listed c.put-3.new.out))
-    ∙ followed (listed c.put-hex.new.out) (codes "layout=") _ _ c.put-3.ensures.bytes c.as-slice-2.ensures
-    ∙ followed (listed c.put-number-5.new.out) (codes "salt=") _ _ c.put-hex.ensures.bytes (ap hex c.as-slice.ensures)
-    ∙ followed (listed c.put-number-4.new.out) (codes "page=") (decimal c.args.self.now.page) _ c.put-number-5.ensures.bytes refl
-    ∙ followed (listed c.put-number-3.new.out) (codes "depth=") _ _ c.put-number-4.ensures.bytes (ap decimal c.from-4.ensures)
-    ∙ followed (listed c.put-number-2.new.out) (codes "fanout=") _ _ c.put-number-3.ensures.bytes (ap decimal c.from-3.ensures)
-    ∙ followed (listed c.put-number.new.out) (codes "keybytes=") _ _ c.put-number-2.ensures.bytes (ap decimal c.from-2.ensures)
-    ∙ followed (listed c.put-2.new.out) (codes "digest=") _ _ c.put-number.ensures.bytes (ap decimal c.from.ensures)
+    ∙ followed (listed c.put_hex.new.out) (codes "layout=") _ _ c.put-3.ensures.bytes c.as_slice-2.ensures
+    ∙ followed (listed c.put_number-5.new.out) (codes "salt=") _ _ c.put_hex.ensures.bytes (ap hex c.as_slice.ensures)
+    ∙ followed (listed c.put_number-4.new.out) (codes "page=") (decimal c.args.self.now.page) _ c.put_number-5.ensures.bytes refl
+    ∙ followed (listed c.put_number-3.new.out) (codes "depth=") _ _ c.put_number-4.ensures.bytes (ap decimal c.from-4.ensures)
+    ∙ followed (listed c.put_number-2.new.out) (codes "fanout=") _ _ c.put_number-3.ensures.bytes (ap decimal c.from-3.ensures)
+    ∙ followed (listed c.put_number.new.out) (codes "keybytes=") _ _ c.put_number-2.ensures.bytes (ap decimal c.from-2.ensures)
+    ∙ followed (listed c.put-2.new.out) (codes "digest=") _ _ c.put_number.ensures.bytes (ap decimal c.from.ensures)
     ∙ followed (listed c.put.new.out) (codes "variant=") _ _ c.put-2.ensures.bytes c.letter.ensures
     ∙ followed (listed c.new-out.result) (codes "kind=seal") [] _ c.put.ensures.bytes refl
     ∙ ap (λ l. l ++ label_text c.args.self.now) c.new-out.ensures

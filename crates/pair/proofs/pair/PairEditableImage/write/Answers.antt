@@ -9,10 +9,10 @@ pub returns-then-page-front : goal.returns-then-page-front
 returns-then-page-front g c =
     let a = g.A.Image.meaning c.args.self.now.first in
     let b = g.B.Image.meaning c.args.self.now.second in
-    let ok : is_ok (pair_answer a b) ≡ true = sym c.is-joined.ensures ∙ c.if-not-is-joined.false in
+    let ok : is_ok (pair_answer a b) ≡ true = sym c.is_joined.ensures ∙ c.if-not-is_joined.false in
     let page = c.args.page in
     let bytes = c.args.bytes.now in
-    let h : page < count a = omega (arith, c.page-count-front.ensures) in
+    let h : page < count a = omega (arith, c.page_count-front.ensures) in
     record {
       answer = c.write.ensures.answer ∙ sym (write-front a b ok page (length bytes) h);
       after = ap (λ m. pair_made m b) c.write.ensures.after ∙ written-front a b ok page bytes h;
@@ -24,22 +24,22 @@ pub recount-requires : goal.recount-requires
 recount-requires g c =
     let a = g.A.Image.meaning c.args.self.now.first in
     let b = g.B.Image.meaning c.args.self.now.second in
-    let ok : is_ok (pair_answer a b) ≡ true = sym c.is-joined.ensures ∙ c.if-not-is-joined.false in
+    let ok : is_ok (pair_answer a b) ≡ true = sym c.is_joined.ensures ∙ c.if-not-is_joined.false in
     let page = c.args.page in
-    write-fits a b ok page c.page-count-front.result c.page-count-front.ensures c.if-page-front.false (length c.args.bytes.now) (2 ^ 64) (omega arith) c.write-answer.result c.write-answer.ensures.answer
+    write-fits a b ok page c.page_count-front.result c.page_count-front.ensures c.if-page-front.false (length c.args.bytes.now) (2 ^ 64) (omega arith) c.write_answer.result c.write_answer.ensures.answer
 
 pub returns : goal.returns
 returns g c =
     let a = g.A.Image.meaning c.args.self.now.first in
     let b = g.B.Image.meaning c.args.self.now.second in
-    let ok : is_ok (pair_answer a b) ≡ true = sym c.is-joined.ensures ∙ c.if-not-is-joined.false in
+    let ok : is_ok (pair_answer a b) ≡ true = sym c.is_joined.ensures ∙ c.if-not-is_joined.false in
     let page = c.args.page in
     let bytes = c.args.bytes.now in
-    let front = c.page-count-front.result in
-    let r = c.write-answer.result in
+    let front = c.page_count-front.result in
+    let r = c.write_answer.result in
     record {
-      answer = c.recount.ensures ∙ second-write a b ok page c.page-count-front.result c.page-count-front.ensures c.if-page-front.false (length bytes) r c.write-answer.ensures.answer;
-      after = second-after a b ok page bytes c.page-count-front.result c.page-count-front.ensures c.if-page-front.false (g.B.Image.meaning c.write-answer.new.self) c.write-answer.ensures.after;
-      frame = ap (λ names. g.A.Image.frame c.args.self.now.first ++ names) c.write-answer.ensures.frame;
-      kept = λ x. ap (λ s. record { first = c.args.self.now.first; second = s }) (c.write-answer.ensures.kept (sym (recounted_ok front r) ∙ sym (ap is_ok c.recount.ensures) ∙ x));
+      answer = c.recount.ensures ∙ second-write a b ok page c.page_count-front.result c.page_count-front.ensures c.if-page-front.false (length bytes) r c.write_answer.ensures.answer;
+      after = second-after a b ok page bytes c.page_count-front.result c.page_count-front.ensures c.if-page-front.false (g.B.Image.meaning c.write_answer.new.self) c.write_answer.ensures.after;
+      frame = ap (λ names. g.A.Image.frame c.args.self.now.first ++ names) c.write_answer.ensures.frame;
+      kept = λ x. ap (λ s. record { first = c.args.self.now.first; second = s }) (c.write_answer.ensures.kept (sym (recounted_ok front r) ∙ sym (ap is_ok c.recount.ensures) ∙ x));
     }
