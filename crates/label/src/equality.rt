@@ -1,10 +1,12 @@
 // Equality of labels.
-ghost use Rattle.std.specs.Prelude.{◌≡◌, Decides};
+ghost use Rattle.std.specs.Prelude.{◌≡◌, Decides, nat_eq};
 ghost use Rattle.std.specs.Cmp.Rules.{comparing};
-ghost use Rattle.std.proofs.Common.{rules, arith};
-ghost use Rattle.std.specs.Cmp as Keys;
+ghost use Rattle.std.specs.Ordering.{on, eq_of_both};
+ghost use Rattle.std.proofs.Common.{rules};
 
 use crate::Label;
+use blake2::Variant;
+use byte_strings::Bytes;
 
 // Whether the five numbers are the same.
 fn same_numbers(a: &Label, b: &Label) -> bool
@@ -17,12 +19,23 @@ fn same_numbers(a: &Label, b: &Label) -> bool
         && a.page == b.page
 }
 
-impl PartialEq<Label> for Label {
-    ghost equals = { λ x y r. Decides r (x ≡ y) };
+impl PartialEq for Label {
+    ghost eq = { eq_of_both (on (λ l. l.variant) ⟦<Variant as PartialEq>⟧.eq)
+        (eq_of_both (on (λ l. l.digest) nat_eq)
+        (eq_of_both (on (λ l. l.key) nat_eq)
+        (eq_of_both (on (λ l. l.fanout) nat_eq)
+        (eq_of_both (on (λ l. l.depth) nat_eq)
+        (eq_of_both (on (λ l. l.page) nat_eq)
+        (eq_of_both (on (λ l. l.salt) ⟦<Bytes<16> as PartialEq>⟧.eq)
+        (on (λ l. l.layout) ⟦<Bytes<16> as PartialEq>⟧.eq))))))) };
 
-    ghost laws = { Keys.partial_equiv_from_equiv (first_of (Prim.search (comparing, rules), Prim.grind (arith, Self.row.coded.inj))) };
+    ghost laws = { Prim.search (comparing, rules) depth 12 };
 
-    fn eq(&self, other: &Label) -> bool {
+    // Whether they say the same: then they are the same value.
+    fn eq(&self, other: &Label) -> bool
+        ensures value { result ≡ ⟦<Label as PartialEq>⟧.eq self.now other.now }
+        ensures same { Decides result (self.now ≡ other.now) }
+    {
         if self.variant != other.variant || !same_numbers(self, other) {
             return false;
         }
@@ -31,5 +44,5 @@ impl PartialEq<Label> for Label {
 }
 
 impl Eq for Label {
-    ghost laws = { first_of (Prim.search (comparing, rules), Prim.grind (arith, Self.row.coded.inj)) };
+    ghost laws = { Prim.search (comparing, rules) depth 12 };
 }

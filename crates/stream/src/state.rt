@@ -116,8 +116,8 @@ fn clear_from(wait: &mut [u8], from: usize)
 
 // The last bytes go in: the blocks before the last one, and the last one with the zeros that stand after its bytes.
 fn close<W: Word>(h: &mut [W; 8], wait: &[u8], filled: usize, t: u64, node: bool)
-    requires wait_len { (length wait.now ≡ 128) × ((filled ≤ 128) × (t < 2 ^ 62)) }
-    requires wait_value { wait.now ≡ pad 128 (take filled wait.now) }
+    requires sizes { (length wait.now ≡ 128) × ((filled ≤ 128) × (t < 2 ^ 62)) }
+    requires zeros { wait.now ≡ pad 128 (take filled wait.now) }
     ensures { map W.Word.value h.new ≡ ended W.Word.width node t (take filled wait.now) (map W.Word.value h.old) }
 {
     let b = 16 * W::size();

@@ -170,34 +170,22 @@ pub invariant_of-label : goal.invariant_of-label
 invariant_of-label c =
     let digest = rw c.digest_range.ensures at c.in_ok-digest.ensures.range in
     let key = rw c.key_range.ensures at c.in_ok-key.ensures.range in
-    let name = name_rules c.in_ok-variant.variant (listed c.in_ok-layout-2.layout) c.in_ok-layout-2.ensures.rules in (
-      digest.0,
-      (
-        digest.1,
-        (
-          key.1,
-          (
-            c.in_ok-fanout.ensures.range.0,
-            (
-              c.in_ok-fanout.ensures.range.1,
-              (
-                c.in_ok-depth.ensures.range.0,
-                (
-                  c.in_ok-depth.ensures.range.1,
-                  (
-                    c.in_ok-page.ensures.range.0,
-                    (
-                      c.in_ok-page.ensures.range.1,
-                      (c.in_ok-salt-2.ensures.size ∙ c.salt_length.ensures.0, (name.0, (name.1, (name.2, tt)))),
-                    ),
-                  ),
-                ),
-              ),
-            ),
-          ),
-        ),
-      ),
-    )
+    let name = name_rules c.in_ok-variant.variant (listed c.in_ok-layout-2.layout) c.in_ok-layout-2.ensures.rules in
+    record {
+      digest_low = digest.0;
+      digest_high = digest.1;
+      key_high = key.1;
+      fanout_low = c.in_ok-fanout.ensures.range.0;
+      fanout_high = c.in_ok-fanout.ensures.range.1;
+      depth_low = c.in_ok-depth.ensures.range.0;
+      depth_high = c.in_ok-depth.ensures.range.1;
+      page_low = c.in_ok-page.ensures.range.0;
+      page_high = c.in_ok-page.ensures.range.1;
+      salt_length = c.in_ok-salt-2.ensures.size ∙ c.salt_length.ensures.0;
+      layout_low = name.0;
+      layout_high = name.1;
+      layout_bytes = name.2;
+    }
 
 pub returns : goal.returns
 returns c =

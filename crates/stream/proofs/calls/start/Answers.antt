@@ -11,7 +11,7 @@ pub invariant_of-result : goal.invariant_of-result
 invariant_of-result g c =
     let sizes = g.met.W.Word.sizes in
     let most = keyed_most g.W.Word.width c.args.key.now (omega arith) in
-    (c.add_key.ensures.filled, (omega (arith, c.add_key.ensures.count), (omega arith, tt)))
+    record { room = c.add_key.ensures.filled; count = omega (arith, c.add_key.ensures.count); limit = omega arith }
 
 pub returns : goal.returns
 unfolding hash digest

@@ -1,3 +1,4 @@
+use denote.Ref.{Bor}
 use Rattle.std.proofs.Common.{◌≡◌, ℕ, ◌^◌, ◌<◌, ◌≤◌, List, [], map, length, take, Err, sym, ap, ◌∙◌, zero-add, arith}
 use Rattle.std.proofs.lemmas.List.{get_or-map, length-map, take_all}
 use Rattle.std.proofs.lemmas.Result.{err_from_is_err_and}
@@ -40,7 +41,7 @@ returns-in_err-add g c =
     let pieces = map (λ x. x.now) c.args.pieces.now in
     let out = c.args.out.now in
     let v = view_of w g.W.Word.value c.loop-piece.stream in
-    let inside : i < length pieces = omega (arith, length-map c.args.pieces.now ((λ x. x.now) {X = List ℕ})) in
+    let inside : i < length pieces = omega (arith, length-map c.args.pieces.now (λ (x : Bor (List ℕ)). x.now)) in
     let total : v.total ≡ length (joined (take i pieces)) = ap (λ u. u.total) c.loop-piece.invariant ∙ zero-add (length (joined (take i pieces))) in
     let stop = add_stops w d (length key) (length out) i v pieces _ c.in_err-add.field-0.0 (sym c.in_ok-check.ensures) inside
     (get_or-map (λ x. x.now) c.args.pieces.now i _ [] c.loop-piece-test.true) total (sym c.in_err-add.ensures.answer) in
@@ -54,7 +55,7 @@ loop-piece-preserved g c =
     let w = g.W.Word.width in
     let i = c.loop-piece.piece-index in
     let pieces = map (λ x. x.now) c.args.pieces.now in
-    let inside : i < length pieces = omega (arith, length-map c.args.pieces.now ((λ x. x.now) {X = List ℕ})) in
+    let inside : i < length pieces = omega (arith, length-map c.args.pieces.now (λ (x : Bor (List ℕ)). x.now)) in
     pieces_more (fresh w c.args.digest_len c.args.key.now) (view_of w g.W.Word.value c.loop-piece.stream) _ pieces i _
     c.in_ok-add.ensures.after (sym c.in_ok-add.ensures.answer) c.loop-piece.invariant inside
     (get_or-map (λ x. x.now) c.args.pieces.now i _ [] c.loop-piece-test.true)
@@ -70,7 +71,7 @@ returns g c =
     let pieces = map (λ x. x.now) c.args.pieces.now in
     let v = view_of w g.W.Word.value c.loop-piece.stream in
     let ok = sym c.in_ok-check.ensures in
-    let whole : take c.loop-piece.piece-index pieces ≡ pieces = take_all c.loop-piece.piece-index pieces (omega (arith, length-map c.args.pieces.now ((λ x. x.now) {X = List ℕ}))) in
+    let whole : take c.loop-piece.piece-index pieces ≡ pieces = take_all c.loop-piece.piece-index pieces (omega (arith, length-map c.args.pieces.now (λ (x : Bor (List ℕ)). x.now))) in
     let all : v ≡ taken (fresh w d key) (joined pieces) = c.loop-piece.invariant ∙ ap (λ xs. taken (fresh w d key) (joined xs)) whole in
     let short : length (joined pieces) ≤ 2 ^ 40 = let t = ap (λ u. u.total) all in let limit = c.loop-piece.stream.limit in omega arith in
     record {

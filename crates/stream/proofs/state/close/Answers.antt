@@ -10,7 +10,7 @@ slice_bounds-chain-end-2 g c =
     let b = 16 * c.size-b.result in
     let sizes = g.met.W.Word.sizes in
     let same : b ≡ block_size w = ap (λ n. 16 * n) c.size-b.ensures.0 in
-    let h : b * ((c.args.filled - 1) / b) + b ≤ 128 = rw same (last_within w c.args.filled sizes.0 sizes.2 c.requires.0.1.0) in
+    let h : b * ((c.args.filled - 1) / b) + b ≤ 128 = rw same (last_within w c.args.filled sizes.0 sizes.2 c.requires.sizes.1.0) in
     let k : b * (c.saturating_sub.result / b) + b ≤ 128 = rw c.saturating_sub.ensures h in
     search rules
 
@@ -23,4 +23,4 @@ returns g c =
     let same : b ≡ block_size w = ap (λ n. 16 * n) c.size-b.ensures.0 in
     let at : b * (c.saturating_sub.result / b) ≡ block_size w * before w c.args.filled = rw (c.saturating_sub.ensures, same) in
     closed w c.args.node c.args.t c.args.filled b (b * (c.saturating_sub.result / b)) _ _ c.args.wait.now (map f c.args.h.now) (map f c.chain.new.h) (map f c.chain-2.new.h)
-    sizes.0 sizes.2 c.requires.0.0 c.requires.0.1.0 c.requires.1 same at (omega arith) (omega arith) c.chain.ensures c.chain-2.ensures
+    sizes.0 sizes.2 c.requires.sizes.0 c.requires.sizes.1.0 c.requires.zeros same at (omega arith) (omega arith) c.chain.ensures c.chain-2.ensures

@@ -15,7 +15,7 @@ close-requires g c =
     let new = c.clear_from.new.wait in
     let clear : new ≡ pad 128 (take s.filled s.wait) = c.clear_from.ensures ∙ ap (λ n. pad n (take s.filled s.wait)) long in
     let same : take s.filled new ≡ take s.filled s.wait = cleared 128 s.filled s.wait new long c.requires.0 c.clear_from.ensures in
-    (omega arith, (search rules, (c.requires.0, (c.requires.1.0, clear ∙ ap (pad 128) (sym same)))))
+    (omega arith, (search rules, clear ∙ ap (pad 128) (sym same)))
 
 pub returns : goal.returns
 unfolding meaning
