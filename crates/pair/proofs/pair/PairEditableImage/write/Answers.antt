@@ -26,7 +26,7 @@ recount-requires g c =
     let b = g.B.Image.meaning c.args.self.now.second in
     let ok : is_ok (pair_answer a b) ≡ true = sym c.is_joined.ensures ∙ c.if-not-is_joined.false in
     let page = c.args.page in
-    write-fits a b ok page c.page_count-front.result c.page_count-front.ensures c.if-page-front.false (length c.args.bytes.now) (2 ^ 64) (omega arith) c.write_answer.result c.write_answer.ensures.answer
+    write-fits a b ok page c.page_count-front.result c.page_count-front.ensures c.if-page-front.false (length c.args.bytes.now) (2 ^ 64) (omega arith) c.write-answer.result c.write-answer.ensures.answer
 
 pub returns : goal.returns
 returns g c =
@@ -36,10 +36,10 @@ returns g c =
     let page = c.args.page in
     let bytes = c.args.bytes.now in
     let front = c.page_count-front.result in
-    let r = c.write_answer.result in
+    let r = c.write-answer.result in
     record {
-      answer = c.recount.ensures ∙ second-write a b ok page c.page_count-front.result c.page_count-front.ensures c.if-page-front.false (length bytes) r c.write_answer.ensures.answer;
-      after = second-after a b ok page bytes c.page_count-front.result c.page_count-front.ensures c.if-page-front.false (g.B.Image.meaning c.write_answer.new.self) c.write_answer.ensures.after;
-      frame = ap (λ names. g.A.Image.frame c.args.self.now.first ++ names) c.write_answer.ensures.frame;
-      kept = λ x. ap (λ s. record { first = c.args.self.now.first; second = s }) (c.write_answer.ensures.kept (sym (recounted_ok front r) ∙ sym (ap is_ok c.recount.ensures) ∙ x));
+      answer = c.recount.ensures ∙ second-write a b ok page c.page_count-front.result c.page_count-front.ensures c.if-page-front.false (length bytes) r c.write-answer.ensures.answer;
+      after = second-after a b ok page bytes c.page_count-front.result c.page_count-front.ensures c.if-page-front.false (g.B.Image.meaning c.write-answer.new.self) c.write-answer.ensures.after;
+      frame = ap (λ names. g.A.Image.frame c.args.self.now.first ++ names) c.write-answer.ensures.frame;
+      kept = λ x. ap (λ s. record { first = c.args.self.now.first; second = s }) (c.write-answer.ensures.kept (sym (recounted_ok front r) ∙ sym (ap is_ok c.recount.ensures) ∙ x));
     }

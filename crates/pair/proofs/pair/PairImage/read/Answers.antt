@@ -23,7 +23,7 @@ recount-requires g c =
     let b = g.B.Image.meaning c.args.self.now.second in
     let ok : is_ok (pair_answer a b) ≡ true = sym c.is_joined.ensures ∙ c.if-not-is_joined.false in
     let page = c.args.page in
-    read_fits a b ok page c.page_count-front.result c.page_count-front.ensures c.if-page-front.false (length c.args.out.now) (2 ^ 64) (omega arith) c.read_answer.result c.read_answer.ensures.answer
+    read_fits a b ok page c.page_count-front.result c.page_count-front.ensures c.if-page-front.false (length c.args.out.now) (2 ^ 64) (omega arith) c.read-answer.result c.read-answer.ensures.answer
 
 pub returns : goal.returns
 returns g c =
@@ -33,6 +33,6 @@ returns g c =
     let page = c.args.page in
     let out = c.args.out.now in
     record {
-      answer = c.recount.ensures ∙ second-read a b ok page c.page_count-front.result c.page_count-front.ensures c.if-page-front.false (length out) c.read_answer.result c.read_answer.ensures.answer;
-      out = second-out a b ok page c.page_count-front.result c.page_count-front.ensures c.if-page-front.false out c.read_answer.new.out c.read_answer.ensures.out;
+      answer = c.recount.ensures ∙ second-read a b ok page c.page_count-front.result c.page_count-front.ensures c.if-page-front.false (length out) c.read-answer.result c.read-answer.ensures.answer;
+      out = second-out a b ok page c.page_count-front.result c.page_count-front.ensures c.if-page-front.false out c.read-answer.new.out c.read-answer.ensures.out;
     }
