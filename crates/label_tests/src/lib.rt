@@ -24,14 +24,14 @@ mod tests {
         let label = Label::read(EXAMPLE)?;
         assert_eq!(rt; label.variant, Variant::B);
         assert_eq!(rt; label.page, 1024);
-        assert!(rt; label.layout.as_slice() == b"CLUTCH-07");
+        assert!(rt; label.layout.as_slice() == b"CLUTCH-07".as_slice());
         assert_eq!(rt;
             label,
             Label::new(Variant::B, 32, 0, 4, 6, 1024, &[0; 16], b"CLUTCH-07")?
         );
         let mut out = [7; 125];
         assert_eq!(rt; label.write(&mut out)?, 123);
-        assert!(rt; &out[0..123] == EXAMPLE);
+        assert!(rt; &out[0..123] == EXAMPLE.as_slice());
         assert!(rt; out[123] == 7 && out[124] == 7);
         let mut short = [7; 122];
         assert_eq!(rt;
