@@ -1,5 +1,5 @@
 -- One step of G on a vector of machine words is that step on the words' values.
-use Rattle.std.proofs.Common.{◌≡◌, ℕ, ◌+◌, ◌-◌, ◌%◌, ◌^◌, ◌<◌, List, map, length, get_or, set, ap, ◌∙◌}
+use Rattle.std.proofs.Common.{◌≡◌, ℕ, ◌+◌, ◌%◌, ◌^◌, ◌<◌, List, map, length, get_or, set, ap, ◌∙◌}
 use native.Mathlib.Nat.{mod-add-mod}
 use lib.Bits.{bit_xor}
 use Rattle.std.proofs.lemmas.List.{map-set, get_or-map}

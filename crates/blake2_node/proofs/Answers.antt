@@ -1,14 +1,12 @@
 -- What a node hash that fits answers and writes, from what the hash of its input does.
-use Rattle.std.proofs.Common.{◌≡◌, ℕ, ◌*◌, ◌≤◌, Bool, true, false, cond, not, ◌||◌, eqb, ltb, List, [], length, replicate, is_ok, Ok, Err, Option, Result, sym, refl, ap, ◌∙◌, arith}
+use Rattle.std.proofs.Common.{◌≡◌, ℕ, ◌*◌, ◌≤◌, Bool, true, cond, eqb, List, [], length, replicate, is_ok, Ok, Option, Result, sym, ap, ◌∙◌, arith}
 use Rattle.std.proofs.lemmas.Bool.{cond_both, eq-eqb, le-ltb}
 use Rattle.blake2.specs.Width.{Width}
-use Rattle.fault.specs.Faults.{fault}
 use Rattle.fault.specs.declared.fault.Fault.{Fault}
-use Rattle.fault.specs.declared.refusal.Refusal.TheVariants.{NodeInput}
 use Rattle.label.specs.Meaning.{parts}
 use Rattle.label.specs.declared.label.Label.{Label}
 use Rattle.nodehash.specs.Answers.{hash_answer, hash_out}
-use Rattle.stream.specs.Hash.{blocks, hash}
+use Rattle.stream.specs.Hash.{hash}
 use Rattle.stream.specs.Hashes as stream
 use Rattle.stream.proofs.Hashes.{begin_accepts, hash-accepted, hash-written}
 use Rattle.blake2_node.specs.Meaning.{hashing}

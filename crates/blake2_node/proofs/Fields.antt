@@ -1,13 +1,12 @@
 -- Fields that are put into a block one after another.
-use Rattle.std.proofs.Common.{◌≡◌, ℕ, ◌+◌, ◌-◌, ◌/◌, ◌%◌, ◌≤◌, List, [], ◌∷◌, ◌++◌, length, take, drop, replicate, sym, refl, ap, ◌∙◌, arith}
-use native.Mathlib.Nat.{div-div-eq-div-mul}
+use Rattle.std.proofs.Common.{◌≡◌, ℕ, ◌+◌, ◌-◌, ◌≤◌, List, [], ◌∷◌, ◌++◌, length, take, drop, replicate, sym, ap, ◌∙◌, arith}
 use borrow.Rule.Slice.PartMut.{put_mid}
 use Rattle.std.proofs.lemmas.List.{append_assoc, drop_at, drop-replicate, length-append, take_at}
 use Rattle.blake2.specs.Bytes.{le_bytes, pad}
 use Rattle.blake2.specs.declared.variant.Variant.{Variant}
 use Rattle.blake2.specs.declared.variant.Variant.TheVariants.{B, S}
 use Rattle.label.specs.Labels.{Parts}
-use Rattle.blake2_node.specs.Parameters.{fields, offset_length, parameter_block, zeros_length}
+use Rattle.blake2_node.specs.Parameters.{fields, offset_length, zeros_length}
 
 -- a field that is written after a front takes the place of zeros
 pub put_after : (n k at : ℕ) (front field block last : List ℕ) → at + length field ≤ n → length front ≡ at → block ≡ pad n front → k ≡ length field → last ≡ field

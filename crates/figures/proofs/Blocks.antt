@@ -1,5 +1,5 @@
 -- The blocks of a node, read off the lengths of the pages.
-use Rattle.std.proofs.Common.{◌≡◌, ℕ, zero, suc, ◌+◌, ◌*◌, ◌<◌, Bool, true, false, cond, ◌&&◌, eqb, ltb, List, [], ◌∷◌, ◌++◌, map, length, Some, refl, ap, ◌∙◌, subst, ap₂, suc-mul, zero-mul, arith, length-append}
+use Rattle.std.proofs.Common.{◌≡◌, ℕ, zero, suc, ◌+◌, ◌*◌, ◌<◌, Bool, true, false, cond, ◌&&◌, eqb, ltb, List, [], ◌∷◌, map, length, Some, refl, ap, ◌∙◌, subst, ap₂, suc-mul, zero-mul, arith, length-append}
 use Rattle.std.proofs.lemmas.Bool.{and_parts, eq-eqb, ne_eqb, ltb-true}
 use Rattle.bench.specs.Buffers.{extent_over}
 use Rattle.blake2.specs.Width.{blake2b}

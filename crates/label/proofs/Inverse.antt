@@ -1,5 +1,5 @@
 -- Reading is the inverse of writing.
-use Rattle.std.proofs.Common.{◌≡◌, ℕ, ◌-◌, not, eqb, List, [], ◌∷◌, ◌++◌, length, drop, Ok, Err, Result, sym, refl, ap, ◌∙◌, append-nil, arith, length-append, length-drop}
+use Rattle.std.proofs.Common.{◌≡◌, ℕ, ◌-◌, not, eqb, List, [], ◌∷◌, ◌++◌, length, drop, Ok, Err, Result, sym, ap, ◌∙◌, append-nil, arith, length-append, length-drop}
 use denote.Param.{number}
 use denote.Struct.Record.{values_one}
 use Rattle.std.proofs.lemmas.Bool.{ne_eqb}

@@ -1,7 +1,6 @@
 -- The lines of a label: each reads what it writes, and each label has values for them.
-use Rattle.std.proofs.Common.{◌≡◌, ℕ, ◌<◌, ◌≤◌, Bool, true, false, cond, ◌&&◌, eqb, List, [], ◌∷◌, length, Some, None, sym, refl, ap, ◌∙◌, arith}
+use Rattle.std.proofs.Common.{◌≡◌, ℕ, ◌<◌, ◌≤◌, Bool, true, false, cond, eqb, List, [], ◌∷◌, length, Some, None, sym, refl, ap, ◌∙◌, arith}
 use Rattle.std.proofs.lemmas.Bool.{eqb-true, le-leb, and_parts, and_from, cond-true, false≢true}
-use Rattle.std.specs.Int.{is_in_range}
 use Rattle.blake2.specs.declared.variant.Variant.{Variant}
 use Rattle.blake2.specs.declared.variant.Variant.TheVariants.{B, S}
 use Rattle.byte_strings.proofs.Strings.{listed_small}
@@ -12,7 +11,7 @@ use Rattle.lines.proofs.Formats.{AllFaithful, AllHave}
 use Rattle.lines.specs.Lines.{formed, number_line}
 use Rattle.lines.specs.declared.range.Range.{Range}
 use Rattle.label.specs.declared.label.Label.{Label}
-use Rattle.label.specs.Labels.{Parts, variant_of, variant_line, layout_line, label_format, values_of}
+use Rattle.label.specs.Labels.{variant_of, variant_line, layout_line, label_format, values_of}
 use Rattle.label.specs.Meaning.{parts}
 use Rattle.label.specs.Rules.{digest_range, key_range, fanout_range, depth_range, page_range, salt_length_of, layout_byte, are_layout_bytes, layout_name, letter}
 

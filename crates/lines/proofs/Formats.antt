@@ -2,7 +2,7 @@
 use Rattle.std.proofs.Common.{◌≡◌, ℕ, List, [], ◌++◌, Ok, Err, Result, sym, refl, ap, ◌∙◌, append_assoc}
 use Rattle.fault.specs.declared.fault.Fault.{Fault}
 use Rattle.lines.specs.Formats.{Format, end, line, Values, write_lines, read_lines}
-use Rattle.lines.specs.Lines.{Line, line_then, then, read_line}
+use Rattle.lines.specs.Lines.{line_then, then, read_line}
 use Rattle.lines.proofs.Cuts.{then_back, read_line_back, read_line_line}
 use Rattle.lines.proofs.Codecs.{Faithful, Has}
 

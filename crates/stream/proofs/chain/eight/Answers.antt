@@ -1,4 +1,4 @@
-use Rattle.std.proofs.Common.{◌-◌, arith}
+use Rattle.std.proofs.Common.{arith}
 use Rattle.stream.proofs.Words.{copied}
 use Rattle.stream.proofs.chain.eight.Goals as goal
 
