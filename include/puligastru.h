@@ -1,12 +1,11 @@
 /*
  * Puligastru's functions for C, for whoever writes a bench loader.
  *
- * `rt staticlib puligastru`, run in the repository's root, proves and builds
- * the library. A program links it by
+ * `rt lib`, run in crates/puligastru, proves and builds the library. A program links it by
  *
- *     cc -O2 -Iinclude loader.c target/staticlib/libpuligastru.a -o loader
+ *     cc -O2 -Iinclude loader.c crates/puligastru/out/libpuligastru.a -o loader
  *
- * The archive asks for memcpy and memset of the C library and nothing else.
+ * The archive asks for memcpy, memmove and memset of the C library and no more.
  *
  * EVERY CALL ends and answers, whatever the numbers and bytes are. No call
  * allocates, stops the program, or keeps anything for the next call, so calls

@@ -48,7 +48,7 @@ for row in re.findall(r"^\| [^|]+ \| ([^|]+) \|", promises, re.M):
 # The table of checks has every crate with the number of its must-fail edits.
 checks = dict(re.findall(r"^\| `(\w+)` \| [^|]+ \| (\S+) \|$", text("docs/CHECKS.md"), re.M))
 for line in text("crates.txt").splitlines():
-    name = line.split(":")[0].strip()
+    name = line.split(":")[0].split(" ")[0].strip()
     if name and not name.startswith("#"):
         edits = len(list(pathlib.Path("crates", name, "must-fail").glob("*.edit")))
         hold(checks.get(name) == (str(edits) if edits else "–"), f"docs/CHECKS.md has not {name} with {edits} must-fail edits")

@@ -1,5 +1,5 @@
 -- The compression function F, assignment by assignment, for both widths.
--- A vector is a list of words, `get_or v i 0` its word v[i]; each definition is one line of the standard, or a few, as a function of the vector.
+-- A vector is a list of words, `slice_index v i` its word v[i]; each definition is one line of the standard, or a few, as a function of the vector.
 use Rattle.std.specs.Prelude.{ℕ, zero, suc, ◌+◌, ◌-◌, ◌*◌, ◌/◌, ◌%◌, ◌^◌, Bool, cond, List, [], ◌++◌, get_or, bit_xor, slice_index, slice_index_or, slice_set}
 use Rattle.blake2.specs.Schedule.{sigma}
 use Rattle.blake2.specs.Width.{Width}

@@ -8,7 +8,7 @@ use Rattle.std.proofs.lemmas.Str.Parse.{IsNumeralModel, numerals_by_value, tells
 use Rattle.std.proofs.lemmas.Bool.{ne_eqb, le-ltb, lt-ltb, le-leb, and_parts, and_cases, and_left, and_right, leb-true, ltb-false, eqb-false, not-true, cases_lt}
 use Rattle.std.specs.Str.Parse.{digits_value, AllDigits}
 use Rattle.std.specs.Int.{is_in_range}
-use Rattle.std.specs.Char.{is_ascii_digit, digit_value as digitValue}
+use Rattle.std.specs.Char.{is_ascii_digit, digit_value}
 use Rattle.std.specs.Str.{all_ascii_digits}
 use Rattle.byte_strings.specs.Decimal.{leading_zero, numeral, numbered}
 
@@ -42,8 +42,8 @@ short_value v i lt le d =
     let p : digits_value 10 (take i v) < 10 ^ i = subst (λ k. digits_value 10 (take i v) < 10 ^ k) l (digits_value-lt 10 (take i v) d) in
     omega arith
 
-digit_value : (c : ℕ) → is_ascii_digit c ≡ true → digitValue c ≡ c - 48
-digit_value c e =
+digit_value_lem : (c : ℕ) → is_ascii_digit c ≡ true → digit_value c ≡ c - 48
+digit_value_lem c e =
     let p = and_parts (leb 48 c) (leb c 57) e in
     rw (le-ltb c 48 (leb-true 48 c p.0), lt-ltb c 58 (omega (arith, leb-true c 57 p.1)))
 
@@ -51,7 +51,7 @@ digit_value c e =
 pub one_more : (v : List ℕ) (i n x : ℕ) → i < length v → is_ascii_digit (get_or v i 0) ≡ true → x ≡ get_or v i 0 - 48 → AllDigits 10 (take i v) → n ≡ digits_value 10 (take i v) → AllDigits 10 (take (i + 1) v) × (10 * n + x ≡ digits_value 10 (take (i + 1) v))
 one_more v i n x lt dig e ds is =
     let p = and_parts (leb 48 (get_or v i 0)) (leb (get_or v i 0) 57) dig in
-    let dv = digit_value (get_or v i 0) dig in (
+    let dv = digit_value_lem (get_or v i 0) dig in (
       digits_more 10 v i lt ds (omega (arith, dv, leb-true (get_or v i 0) 57 p.1)),
       omega (arith, dv, digits_value_more 10 v i lt),
     )

@@ -11,7 +11,7 @@ use Rattle.nodehash.specs.Hashing.{Hashing, digest_length, fanout_of}
 use Rattle.stream.specs.Hash.{blocks}
 use Rattle.tree.specs.Below.{joined_from}
 use Rattle.tree.specs.Shapes.{Node, group_size, layer_size, over_nodes}
-use Rattle.tree.specs.Trees.{input, shape_of, tree, treeBlocks}
+use Rattle.tree.specs.Trees.{input, shape_of, tree, tree_blocks}
 use Rattle.tree.specs.declared.shape.Shape.{Shape}
 use Rattle.tree.proofs.Below.{total_same}
 use Rattle.tree.proofs.Trees.{tree-length}
@@ -50,8 +50,8 @@ module _ (said : Parts) (is_b : said.variant ≡ B) (t : TenPages said) where
   blocks-by-label k n =
       ap (λ (p : Parts). blocks_of blake2b p (Some t.key) k n) t.says ∙ ap (λ (b : Bool). cond b (node_blocks blake2b t.key k n) 0) fit
 
-  node-blocks : (k j : ℕ) → (k ≡ 0 → j < 10) → treeBlocks h 10 t.page k j ≡ blocks_at said k j
-  unfolding treeBlocks input blocks_at
+  node-blocks : (k j : ℕ) → (k ≡ 0 → j < 10) → tree_blocks h 10 t.page k j ≡ blocks_at said k j
+  unfolding tree_blocks input blocks_at
   node-blocks zero j low = blocks-by-label 0 (length (t.page j)) ∙ ap₂ (blocks blake2b) t.key_length (t.page_lengths j (low refl))
   node-blocks (suc k) j low =
       let inner : eqb (suc k) 0 ≡ false = ne_eqb (suc k) 0 (λ e. omega arith) in

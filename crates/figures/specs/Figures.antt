@@ -13,7 +13,7 @@ use Rattle.nodehash.specs.Hashing.{Hashing, fanout_of, page_length}
 use Rattle.tree.specs.Marks.{short}
 use Rattle.tree.specs.Runs.{Making, shape_in}
 use Rattle.tree.specs.Shapes.{beneath, layer_count, layer_size, over_nodes}
-use Rattle.tree.specs.Trees.{shape_of, treeBlocks}
+use Rattle.tree.specs.Trees.{shape_of, tree_blocks}
 use Rattle.tree.specs.declared.shape.Shape.{Shape}
 
 abbrev pub shaped : ℕ → ℕ → Shape
@@ -59,11 +59,11 @@ hash_in t = hashing blake2b t.label (Some t.key)
 
 -- the blocks of its tree
 abbrev pub all_blocks : {said : Parts} → TenPages said → ℕ
-all_blocks t = over_nodes (shape_of (hash_in t) 10) (treeBlocks (hash_in t) 10 t.page)
+all_blocks t = over_nodes (shape_of (hash_in t) 10) (tree_blocks (hash_in t) 10 t.page)
 
 -- the blocks of each of these nodes
 abbrev pub blocks_of_nodes : {said : Parts} → TenPages said → List (ℕ × ℕ) → List ℕ
-blocks_of_nodes t nodes = map (λ (node : ℕ × ℕ). treeBlocks (hash_in t) 10 t.page node.0 node.1) nodes
+blocks_of_nodes t nodes = map (λ (node : ℕ × ℕ). tree_blocks (hash_in t) 10 t.page node.0 node.1) nodes
 
 -- one of these pages is beneath node k:j
 unfoldable pub any_beneath : ℕ → List ℕ → ℕ → ℕ → Bool

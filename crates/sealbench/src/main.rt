@@ -8,18 +8,18 @@ mod help;
 mod labels;
 mod options;
 
-use anyhow::anyhow;
 use failure::Failure;
 use options::Command;
 use std::env;
+use std::process::ExitCode;
 
-fn main(rt: HostRuntime) -> anyhow::Result<()> {
+fn main(rt: HostRuntime) -> ExitCode {
     match run(&rt) {
-        Ok(()) => Ok(()),
-        Err(Failure::Told) => Err(anyhow!("told")),
+        Ok(()) => ExitCode::SUCCESS,
+        Err(Failure::Told) => ExitCode::FAILURE,
         Err(failure) => {
-            eprintln!(rt; "sealbench: {failure}")?;
-            Err(anyhow!("told"))
+            let _ = eprintln!(rt; "sealbench: {failure}");
+            ExitCode::FAILURE
         }
     }
 }

@@ -2,8 +2,8 @@
 use Rattle.std.proofs.Common.{◌≡◌, ℕ, ◌+◌, ◌*◌, ◌≤◌, Bool, true, false, cond, List, [], ◌∷◌, ◌++◌, length, set, is_some, is_ok, Some, None, Option, refl, mul-le-mul_right, add-mul, arith}
 use Rattle.tree.specs.declared.answer.Answer.TheVariants.{Done}
 use Rattle.tree.specs.Calls.{Call, Open, Put, Withdraw, Step, Root, Stale, told, answer_of, state_of, next_node, open_state, put_rows, put_answer, put_state, withdraw_state, step_table, step_state, estimate_rows, estimate_answer}
-use Rattle.tree.specs.Laws.{marksLeft, put_count, Suffices}
-use Rattle.tree.specs.Marks.{marks, markPath}
+use Rattle.tree.specs.Laws.{marks_left, put_count, Suffices}
+use Rattle.tree.specs.Marks.{marks, mark_path}
 use Rattle.tree.specs.Runs.{Making, Accepted, shape_in, view_after, state_after, Event, did, events, put_in}
 use Rattle.tree.specs.Shapes.{layer_count}
 use Rattle.tree.specs.Views.{State}
@@ -45,7 +45,7 @@ module _ (m : Making) (s : State) (es : List Event) (i : Inv m s es) where
       omega arith)
     where
       put-new : State
-      put-new = record { pages = set s.pages p bytes; opened = None; table = markPath (shape_in m) p (layer_count (shape_in m)) s.table }
+      put-new = record { pages = set s.pages p bytes; opened = None; table = mark_path (shape_in m) p (layer_count (shape_in m)) s.table }
 
   call-marks : (c : Call) → marks (shape_in m) (state_of (seal m s) c).table ≤ added c + marks (shape_in m) s.table
   unfolding state_of open_state withdraw_state step_state
@@ -57,7 +57,7 @@ module _ (m : Making) (s : State) (es : List Event) (i : Inv m s es) where
   call-marks Stale = omega arith
 
 module _ (m : Making) (acc : Accepted m) (calls : List Call) where
-  puts-mark : (more : List Call) → marksLeft m (more ++ calls) ≤ put_count m calls more * layer_count (shape_in m) + marksLeft m calls
+  puts-mark : (more : List Call) → marks_left m (more ++ calls) ≤ put_count m calls more * layer_count (shape_in m) + marks_left m calls
   unfolding put_count state_after
   puts-mark [] = omega arith
   puts-mark (c ∷ more) =
@@ -65,7 +65,7 @@ module _ (m : Making) (acc : Accepted m) (calls : List Call) where
       let b = call-marks m (state_after m (more ++ calls)) (events m (more ++ calls)) (inv-run m acc (more ++ calls)) c in
       rw add-mul (omega arith)
 
-pub estimate_suffices : (m : Making) → Accepted m → (calls more : List Call) → marksLeft m calls ≡ 0 → Suffices m calls more
+pub estimate_suffices : (m : Making) → Accepted m → (calls more : List Call) → marks_left m calls ≡ 0 → Suffices m calls more
 unfolding estimate_answer
 estimate_suffices m acc calls more worked pages n e l =
     let a = puts-mark m acc calls more in

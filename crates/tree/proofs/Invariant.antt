@@ -14,10 +14,10 @@ use Rattle.tree.specs.declared.answer.Answer.{Answer}
 use Rattle.tree.specs.declared.answer.Answer.TheVariants.{Refused, Done, Stepped, RootRead, Counted}
 use Rattle.tree.specs.Calls.{Call, Open, Put, Withdraw, Step, Root, Stale, told, answer_of, state_of, next_node, input_of, work_on, step_table}
 use Rattle.tree.specs.Calls.{open_rows, open_answer, open_state, put_rows, put_answer, put_state, withdraw_rows, withdraw_answer, withdraw_state, work_rows, page_rows, step_answer, step_state}
-use Rattle.tree.specs.Laws.{digestAfter, heldFrom}
-use Rattle.tree.specs.Marks.{markedAt, held_at, markPath}
+use Rattle.tree.specs.Laws.{digest_after, held_from}
+use Rattle.tree.specs.Marks.{marked_at, held_at, mark_path}
 use Rattle.tree.specs.Records.{stored, fresh}
-use Rattle.tree.specs.Runs.{Making, Accepted, shape_in, check_rows, check_answer, ground_of, made, made_table, state_after, Event, did, events, put_in, latest, page_after, put_beneath, works, last_worked, since_worked, any_put, is_stale}
+use Rattle.tree.specs.Runs.{Making, Accepted, shape_in, check_rows, check_answer, base_of, made, made_table, state_after, Event, did, events, put_in, latest, page_after, put_beneath, works, last_worked, since_worked, any_put, is_stale}
 use Rattle.tree.specs.Shapes.{layer_count, node_count, place, path, beneath, is_last, Node}
 use Rattle.tree.specs.Trees.{input, tree}
 use Rattle.tree.specs.Views.{State, View, page_bytes, is_open, digest_at}
@@ -44,7 +44,7 @@ get_d_map f (x ∷ xs) (suc i) d = get_d_map f xs i d
 module _ (m : Making) where
   -- the seal in this state
   abbrev pub seal : State → View
-  seal s = record { ground = ground_of m; state = s }
+  seal s = record { base = base_of m; state = s }
 
   -- What holds of a state after events.
   pub record Inv (s : State) (es : List Event) : Type 0 where
@@ -52,10 +52,10 @@ module _ (m : Making) where
     pub as_many : length s.pages ≡ count m.image
     pub open_in : (p : ℕ) → s.opened ≡ Some p → p < count m.image
     pub long : Long (shape_in m) s.table
-    pub unmarked : (k j : ℕ) → Node (shape_in m) k j → markedAt (shape_in m) s.table k j ≡ false
-        → held_at (shape_in m) s.table k j ≡ stored (digestAfter m es k j)
-    pub stale : (k j : ℕ) → Node (shape_in m) k j → markedAt (shape_in m) s.table k j ≡ is_stale (fanout_of m.hash) k j es
-    pub old : (k j : ℕ) → Node (shape_in m) k j → held_at (shape_in m) s.table k j ≡ heldFrom m k j (last_worked k j es)
+    pub unmarked : (k j : ℕ) → Node (shape_in m) k j → marked_at (shape_in m) s.table k j ≡ false
+        → held_at (shape_in m) s.table k j ≡ stored (digest_after m es k j)
+    pub stale : (k j : ℕ) → Node (shape_in m) k j → marked_at (shape_in m) s.table k j ≡ is_stale (fanout_of m.hash) k j es
+    pub old : (k j : ℕ) → Node (shape_in m) k j → held_at (shape_in m) s.table k j ≡ held_from m k j (last_worked k j es)
 
   inv-quiet : (s : State) (es : List Event) (e : Event) (o : Option ℕ) → Inv s es → Quiet e
       → ((p : ℕ) → o ≡ Some p → p < count m.image)
@@ -70,7 +70,7 @@ module _ (m : Making) where
         long = i.long;
         unmarked = λ k j v u. i.unmarked k j v u ∙ ap (λ page. stored (tree m.hash (count m.image) page k j)) (sym w);
         stale = λ k j v. i.stale k j v ∙ sym (stale-same k j e es _ (q.no-work k j) (ap (put_beneath _ k j) q.no-put));
-        old = λ k j v. i.old k j v ∙ ap (heldFrom m k j) (sym (last-same k j e es (q.no-work k j)));
+        old = λ k j v. i.old k j v ∙ ap (held_from m k j) (sym (last-same k j e es (q.no-work k j)));
       }
 
   -- a call that is refused leaves the invariant, so it has to be shown of calls that no row stops
@@ -133,15 +133,15 @@ module _ (m : Making) where
     put-beneath k j = refl
 
     abbrev put-table : List ℕ
-    put-table = markPath (shape_in m) p (layer_count (shape_in m)) s.table
+    put-table = mark_path (shape_in m) p (layer_count (shape_in m)) s.table
 
     put-off : (k j : ℕ) → Node (shape_in m) k j → path (fanout_of m.hash) p k ≢ j
-        → markedAt (shape_in m) put-table k j ≡ markedAt (shape_in m) s.table k j
+        → marked_at (shape_in m) put-table k j ≡ marked_at (shape_in m) s.table k j
     put-off k j v ne = path-off (shape_in m) m.hash.wide p there s.table i.long _ k j (omega arith) v ne
 
-    put_on : (k j : ℕ) → Node (shape_in m) k j → path (fanout_of m.hash) p k ≡ j → markedAt (shape_in m) put-table k j ≡ true
+    put_on : (k j : ℕ) → Node (shape_in m) k j → path (fanout_of m.hash) p k ≡ j → marked_at (shape_in m) put-table k j ≡ true
     put_on k j v e =
-        subst (λ x. markedAt (shape_in m) put-table k x ≡ true) e
+        subst (λ x. marked_at (shape_in m) put-table k x ≡ true) e
         (path-on (shape_in m) m.hash.wide p there s.table i.long _ k (omega arith) v.low)
 
     put-held : (k j : ℕ) → held_at (shape_in m) put-table k j ≡ held_at (shape_in m) s.table k j
@@ -168,7 +168,7 @@ module _ (m : Making) where
                 put-off k j v ne ∙ i.stale k j v
                 ∙ sym (stale-same k j put-event es _ (put-works k j) (put-beneath k j ∙ ne_eqb _ j ne))
           ];
-      old = λ k j v. put-held k j ∙ i.old k j v ∙ ap (heldFrom m k j) (sym (last-same k j put-event es (put-works k j)));
+      old = λ k j v. put-held k j ∙ i.old k j v ∙ ap (held_from m k j) (sym (last-same k j put-event es (put-works k j)));
     }
 
   -- an accepted put names a page that there is
@@ -184,8 +184,8 @@ module _ (m : Making) where
   -- STEP
 
   -- the digest that an unmarked node holds is the tree's
-  pub digest-true : (s : State) (es : List Event) → Inv s es → (k j : ℕ) → Node (shape_in m) k j → markedAt (shape_in m) s.table k j ≡ false
-      → digest_at (seal s) k j ≡ digestAfter m es k j
+  pub digest-true : (s : State) (es : List Event) → Inv s es → (k j : ℕ) → Node (shape_in m) k j → marked_at (shape_in m) s.table k j ≡ false
+      → digest_at (seal s) k j ≡ digest_after m es k j
   unfolding digest_at
   digest-true s es i k j v u =
       ap (take (digest_length m.hash)) (i.unmarked k j v u)
@@ -193,7 +193,7 @@ module _ (m : Making) where
 
   module _ (s : State) (es : List Event) (i : Inv s es) (k₀ j₀ : ℕ) (ready : Ready (shape_in m) s.table k₀ j₀) where
     -- the input of the node that is worked is the tree's
-    pub input-true : input_of (seal s) k₀ j₀ ≡ input m.hash (count m.image) (page_after m es) (digestAfter m es) k₀ j₀
+    pub input-true : input_of (seal s) k₀ j₀ ≡ input m.hash (count m.image) (page_after m es) (digest_after m es) k₀ j₀
     unfolding input_of
     input-true =
         ap (λ page. input m.hash (count m.image) page (digest_at (seal s)) k₀ j₀) (fun_ext i.pages-are)
@@ -203,7 +203,7 @@ module _ (m : Making) where
     abbrev step-digest : List ℕ
     step-digest = m.hash.digest k₀ j₀ (is_last (shape_in m) k₀ j₀) (input_of (seal s) k₀ j₀)
 
-    step-digest-true : step-digest ≡ digestAfter m es k₀ j₀
+    step-digest-true : step-digest ≡ digest_after m es k₀ j₀
     step-digest-true =
         ap (m.hash.digest k₀ j₀ (is_last (shape_in m) k₀ j₀)) input-true
         ∙ sym (tree_is m.hash (count m.image) (page_after m es) k₀ j₀)
@@ -217,11 +217,11 @@ module _ (m : Making) where
     abbrev pub worked-table : List ℕ
     worked-table = step_table (seal s) (Some (k₀, j₀))
 
-    pub step-unmarked : markedAt (shape_in m) worked-table k₀ j₀ ≡ false
-    unfolding step_table markedAt
+    pub step-unmarked : marked_at (shape_in m) worked-table k₀ j₀ ≡ false
+    unfolding step_table marked_at
     step-unmarked = marked-store s.table _ _ step_room
 
-    step-held : held_at (shape_in m) worked-table k₀ j₀ ≡ stored (digestAfter m es k₀ j₀)
+    step-held : held_at (shape_in m) worked-table k₀ j₀ ≡ stored (digest_after m es k₀ j₀)
     unfolding step_table held_at
     step-held = held-store s.table _ _ step-digest-short step_room ∙ ap stored step-digest-true
 
@@ -229,8 +229,8 @@ module _ (m : Making) where
     Other k j = (k ≡ k₀) × (j ≡ j₀) → ⊥
 
     pub step-marked-other : (k j : ℕ) → Node (shape_in m) k j → Other k j
-        → markedAt (shape_in m) worked-table k j ≡ markedAt (shape_in m) s.table k j
-    unfolding step_table markedAt
+        → marked_at (shape_in m) worked-table k j ≡ marked_at (shape_in m) s.table k j
+    unfolding step_table marked_at
     step-marked-other k j v ne =
         marked-store_other s.table _ _ _ step-digest-short step_room (place_other (shape_in m) k j k₀ j₀ v ready.node ne)
 
@@ -279,7 +279,7 @@ module _ (m : Making) where
       step-beneath k j = refl
 
       inv-worked : Inv (record { pages = s.pages; opened = s.opened; table = worked-table }) (step-event ∷ es)
-      unfolding heldFrom page_bytes
+      unfolding held_from page_bytes
       inv-worked =
           let w = pages_same m step-event es step-no-put in
           record {
@@ -289,26 +289,26 @@ module _ (m : Making) where
             long = rw step-length i.long;
             unmarked =
                 by-node
-                (λ k j. Node (shape_in m) k j → markedAt (shape_in m) worked-table k j ≡ false
-                → held_at (shape_in m) worked-table k j ≡ stored (digestAfter m (step-event ∷ es) k j))
+                (λ k j. Node (shape_in m) k j → marked_at (shape_in m) worked-table k j ≡ false
+                → held_at (shape_in m) worked-table k j ≡ stored (digest_after m (step-event ∷ es) k j))
                 (λ v u. step-held ∙ ap (λ page. stored (tree m.hash (count m.image) page k₀ j₀)) (sym w))
                 (λ k j ne v u.
                 step-held-other k j v ne ∙ i.unmarked k j v (sym (step-marked-other k j v ne) ∙ u)
                 ∙ ap (λ page. stored (tree m.hash (count m.image) page k j)) (sym w));
             stale =
                 by-node
-                (λ k j. Node (shape_in m) k j → markedAt (shape_in m) worked-table k j ≡ is_stale (fanout_of m.hash) k j (step-event ∷ es))
+                (λ k j. Node (shape_in m) k j → marked_at (shape_in m) worked-table k j ≡ is_stale (fanout_of m.hash) k j (step-event ∷ es))
                 (λ v. step-unmarked ∙ sym (stale-worked k₀ j₀ step-event es _ step-works))
                 (λ k j ne v.
                 step-marked-other k j v ne ∙ i.stale k j v
                 ∙ sym (stale-same k j step-event es _ (step-works-other k j ne) (step-beneath k j)));
             old =
                 by-node
-                (λ k j. Node (shape_in m) k j → held_at (shape_in m) worked-table k j ≡ heldFrom m k j (last_worked k j (step-event ∷ es)))
-                (λ v. step-held ∙ ap (heldFrom m k₀ j₀) (sym (last-now k₀ j₀ step-event es step-works)))
+                (λ k j. Node (shape_in m) k j → held_at (shape_in m) worked-table k j ≡ held_from m k j (last_worked k j (step-event ∷ es)))
+                (λ v. step-held ∙ ap (held_from m k₀ j₀) (sym (last-now k₀ j₀ step-event es step-works)))
                 (λ k j ne v.
                 step-held-other k j v ne ∙ i.old k j v
-                ∙ ap (heldFrom m k j) (sym (last-same k j step-event es (step-works-other k j ne))));
+                ∙ ap (held_from m k j) (sym (last-same k j step-event es (step-works-other k j ne))));
           }
 
   inv-stepped : (s : State) (es : List Event) (work : List ℕ) → Inv s es → (o : Option (ℕ × ℕ)) → next_node (seal s) ≡ o
@@ -353,7 +353,7 @@ module _ (m : Making) where
   made-fresh acc = ap (λ r. cond (is_ok r) fresh-table m.table) acc
 
   inv-fresh : Accepted m → Inv (record { pages = map (λ (p : Page). p.bytes) m.image.pages; opened = None; table = fresh-table }) []
-  unfolding page_bytes page_after is_stale last_worked since_worked any_put heldFrom markedAt held_at
+  unfolding page_bytes page_after is_stale last_worked since_worked any_put held_from marked_at held_at
   inv-fresh acc = record {
     pages-are = λ p. get_d_map (λ (x : Page). x.bytes) m.image.pages p absent;
     as_many = length-map m.image.pages (λ (x : Page). x.bytes);

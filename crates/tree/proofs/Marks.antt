@@ -2,7 +2,7 @@
 use Rattle.std.proofs.Common.{◌≡◌, ℕ, zero, suc, ◌+◌, ◌*◌, ◌<◌, ◌≤◌, Bool, true, false, cond, ◌≢◌, List, length, is_some, Some, None, Option, sym, refl, ap, ◌∙◌, subst, arith}
 use Rattle.std.proofs.lemmas.Bool.{true≢false}
 use Rattle.tree.specs.declared.shape.Shape.{Shape}
-use Rattle.tree.specs.Marks.{markedAt, held_at, marks, leftmost, lowest, inLayer, in_table, next, markPath}
+use Rattle.tree.specs.Marks.{marked_at, held_at, marks, leftmost, lowest, in_layer, in_table, next, mark_path}
 use Rattle.tree.specs.Records.{marked, mark}
 use Rattle.tree.specs.Shapes.{layer_count, node_count, over_nodes, place, path, group_size, Node}
 use Rattle.tree.proofs.Below.{by_last, first-none, first_some}
@@ -24,14 +24,14 @@ module _ (s : Shape) where
   -- A node that can be worked: it is marked, and no node of its group is.
   pub record Ready (t : List ℕ) (k j : ℕ) : Type 0 where
     pub node : Node s k j
-    pub is-marked : markedAt s t k j ≡ true
-    pub bare : (k' i : ℕ) → k ≡ suc k' → i < group_size s k' j → markedAt s t k' (j * s.fanout + i) ≡ false
+    pub is-marked : marked_at s t k j ≡ true
+    pub bare : (k' i : ℕ) → k ≡ suc k' → i < group_size s k' j → marked_at s t k' (j * s.fanout + i) ≡ false
 
   -- A marked node below whose layer none is marked.
   record Lowest (t : List ℕ) (k j : ℕ) : Type 0 where
     node : Node s k j
-    is-marked : markedAt s t k j ≡ true
-    lower : (k' j' : ℕ) → k' < k → Node s k' j' → markedAt s t k' j' ≡ false
+    is-marked : marked_at s t k j ≡ true
+    lower : (k' j' : ℕ) → k' < k → Node s k' j' → marked_at s t k' j' ≡ false
 
   lowest-ready : (t : List ℕ) (k j : ℕ) → Lowest t k j → Ready t k j
   lowest-ready t k j c = record {
@@ -40,25 +40,25 @@ module _ (s : Shape) where
     bare = λ k' i e l. c.lower k' (j * s.fanout + i) (omega arith) (group-node s k k' j i c.node e l);
   }
 
-  none_left : (t : List ℕ) → lowest s t ≡ None → (k j : ℕ) → Node s k j → markedAt s t k j ≡ false
+  none_left : (t : List ℕ) → lowest s t ≡ None → (k j : ℕ) → Node s k j → marked_at s t k j ≡ false
   unfolding lowest leftmost
   none_left t e k j v =
-      first-none (markedAt s t k) _ (is_none _ (first-none (λ x. is_some (leftmost s t x)) _ e k v.low)) j v.left
+      first-none (marked_at s t k) _ (is_none _ (first-none (λ x. is_some (leftmost s t x)) _ e k v.low)) j v.left
 
   leftmost-some : (t : List ℕ) (k : ℕ) → lowest s t ≡ Some k → is_some (leftmost s t k) ≡ true
   unfolding lowest
   leftmost-some t k e = (first_some _ _ k e).passes
 
   -- where there is no next node, none is marked
-  pub next-none : (t : List ℕ) → next s t ≡ None → (k j : ℕ) → Node s k j → markedAt s t k j ≡ false
-  unfolding next in_table inLayer
+  pub next-none : (t : List ℕ) → next s t ≡ None → (k j : ℕ) → Node s k j → marked_at s t k j ≡ false
+  unfolding next in_table in_layer
   next-none t e k j v = go (lowest s t) refl e
     where
-      inner : (x : ℕ) → lowest s t ≡ Some x → (o : Option ℕ) → leftmost s t x ≡ o → inLayer s x o ≡ None → markedAt s t k j ≡ false
+      inner : (x : ℕ) → lowest s t ≡ Some x → (o : Option ℕ) → leftmost s t x ≡ o → in_layer s x o ≡ None → marked_at s t k j ≡ false
       inner x e₁ (Some y) e₂ e₃ = cc
       inner x e₁ None e₂ e₃ = absurd (true≢false (sym (leftmost-some t x e₁) ∙ ap is_some e₂))
 
-      go : (o : Option ℕ) → lowest s t ≡ o → in_table s t o ≡ None → markedAt s t k j ≡ false
+      go : (o : Option ℕ) → lowest s t ≡ o → in_table s t o ≡ None → marked_at s t k j ≡ false
       go (Some x) e₁ e₂ = inner x e₁ (leftmost s t x) refl e₂
       go None e₁ e₂ = none_left t e₁ k j v
 
@@ -70,15 +70,15 @@ module _ (s : Shape) where
       record {
         node = record { low = a.below; left = b.below };
         is-marked = b.passes;
-        lower = λ k' j' l v. first-none (markedAt s t k') _ (is_none _ (a.least k' l)) j' v.left;
+        lower = λ k' j' l v. first-none (marked_at s t k') _ (is_none _ (a.least k' l)) j' v.left;
       }
 
   -- the next node can be worked
   pub next-some : (t : List ℕ) (v : ℕ × ℕ) → next s t ≡ Some v → Ready t v.0 v.1
-  unfolding next in_table inLayer
+  unfolding next in_table in_layer
   next-some t v e = lowest-ready t v.0 v.1 (go (lowest s t) refl e)
     where
-      inner : (x : ℕ) → lowest s t ≡ Some x → (o : Option ℕ) → leftmost s t x ≡ o → inLayer s x o ≡ Some v → Lowest t v.0 v.1
+      inner : (x : ℕ) → lowest s t ≡ Some x → (o : Option ℕ) → leftmost s t x ≡ o → in_layer s x o ≡ Some v → Lowest t v.0 v.1
       inner x e₁ (Some y) e₂ e₃ =
           let q : (x, y) ≡ v = cc in
           subst (λ (u : ℕ × ℕ). Lowest t u.0 u.1) q (lowest-at t x y e₁ e₂)
@@ -90,16 +90,16 @@ module _ (s : Shape) where
 
   -- THE PATH THAT A PUT MARKS
 
-  pub length-path : (p m : ℕ) (t : List ℕ) → length (markPath s p m t) ≡ length t
-  unfolding markPath
+  pub length-path : (p m : ℕ) (t : List ℕ) → length (mark_path s p m t) ≡ length t
+  unfolding mark_path
   length-path p zero t = refl
-  length-path p (suc m) t = length-mark (markPath s p m t) _ ∙ length-path p m t
+  length-path p (suc m) t = length-mark (mark_path s p m t) _ ∙ length-path p m t
 
   -- it changes no digest
-  pub held-path : (p m : ℕ) (t : List ℕ) (k j : ℕ) → held_at s (markPath s p m t) k j ≡ held_at s t k j
-  unfolding markPath held_at
+  pub held-path : (p m : ℕ) (t : List ℕ) (k j : ℕ) → held_at s (mark_path s p m t) k j ≡ held_at s t k j
+  unfolding mark_path held_at
   held-path p zero t k j = refl
-  held-path p (suc m) t k j = held-mark (markPath s p m t) _ (place s k j) ∙ held-path p m t k j
+  held-path p (suc m) t k j = held-mark (mark_path s p m t) _ (place s k j) ∙ held-path p m t k j
 
   -- HOW MANY ARE MARKED
 
@@ -107,27 +107,27 @@ module _ (s : Shape) where
   weight-zero true e = absurd (omega arith)
   weight-zero false e = refl
 
-  pub marks-zero : (t : List ℕ) → marks s t ≡ 0 → (k j : ℕ) → Node s k j → markedAt s t k j ≡ false
+  pub marks-zero : (t : List ℕ) → marks s t ≡ 0 → (k j : ℕ) → Node s k j → marked_at s t k j ≡ false
   unfolding marks
   marks-zero t e k j v = weight-zero _ (nodes-zero s _ e k j v)
 
   -- the sum of w k j over the marked nodes
   abbrev pub weighed : (ℕ → ℕ → ℕ) → List ℕ → ℕ
-  weighed w t = over_nodes s (λ k j. cond (markedAt s t k j) (w k j) 0)
+  weighed w t = over_nodes s (λ k j. cond (marked_at s t k j) (w k j) 0)
 
-  pub weighed-none : (w : ℕ → ℕ → ℕ) (t : List ℕ) → ((k j : ℕ) → Node s k j → markedAt s t k j ≡ false) → weighed w t ≡ 0
+  pub weighed-none : (w : ℕ → ℕ → ℕ) (t : List ℕ) → ((k j : ℕ) → Node s k j → marked_at s t k j ≡ false) → weighed w t ≡ 0
   weighed-none w t h = nodes-none s _ (λ k j v. rw (h k j v))
 
   -- a node that loses its mark loses its weight
-  pub weighed-one : (w : ℕ → ℕ → ℕ) (t t' : List ℕ) (k₀ j₀ : ℕ) → Node s k₀ j₀ → markedAt s t k₀ j₀ ≡ true → markedAt s t' k₀ j₀ ≡ false
-      → ((k j : ℕ) → Node s k j → ((k ≡ k₀) × (j ≡ j₀) → ⊥) → markedAt s t' k j ≡ markedAt s t k j)
+  pub weighed-one : (w : ℕ → ℕ → ℕ) (t t' : List ℕ) (k₀ j₀ : ℕ) → Node s k₀ j₀ → marked_at s t k₀ j₀ ≡ true → marked_at s t' k₀ j₀ ≡ false
+      → ((k j : ℕ) → Node s k j → ((k ≡ k₀) × (j ≡ j₀) → ⊥) → marked_at s t' k j ≡ marked_at s t k j)
       → weighed w t ≡ w k₀ j₀ + weighed w t'
   weighed-one w t t' k₀ j₀ v is was same =
       nodes-one s _ _ k₀ j₀ (w k₀ j₀) v (rw (is, was) (omega arith)) (λ k j u ne. ap (λ b. cond b (w k j) 0) (sym (same k j u ne)))
 
   -- a mark adds one at most
   marks-mark : (t : List ℕ) (k₀ j₀ : ℕ) → Long t → Node s k₀ j₀ → marks s (mark t (place s k₀ j₀)) ≤ 1 + marks s t
-  unfolding marks markedAt
+  unfolding marks marked_at
   marks-mark t k₀ j₀ long v = go (marked t (place s k₀ j₀)) refl
     where
       differ : (d : ℕ) → 1 ≡ d + cond (marked t (place s k₀ j₀)) 1 0 → marks s (mark t (place s k₀ j₀)) ≡ d + marks s t
@@ -140,36 +140,36 @@ module _ (s : Shape) where
       go false e = let a = differ 1 (rw e) in omega arith
 
   module _ (wide : 2 ≤ s.fanout) (p : ℕ) (there : p < s.pages) (t : List ℕ) (long : Long t) where
-    path-long : (m : ℕ) → Long (markPath s p m t)
+    path-long : (m : ℕ) → Long (mark_path s p m t)
     path-long m = rw length-path long
 
     -- nodes off the path keep their marks
     pub path-off : (m k j : ℕ) → m ≤ layer_count s → Node s k j → path s.fanout p k ≢ j
-        → markedAt s (markPath s p m t) k j ≡ markedAt s t k j
-    unfolding markPath markedAt
+        → marked_at s (mark_path s p m t) k j ≡ marked_at s t k j
+    unfolding mark_path marked_at
     path-off zero k j l v ne = refl
     path-off (suc m) k j l v ne =
-        marked-mark_other (markPath s p m t) _ _
+        marked-mark_other (mark_path s p m t) _ _
         (place_other s k j m (path s.fanout p m) v (path-node s p m wide there (omega arith))
         (λ e. ne (ap (path s.fanout p) e.0 ∙ sym e.1)))
         ∙ path-off m k j (omega arith) v ne
 
     -- and those on it are marked
-    pub path-on : (m k : ℕ) → m ≤ layer_count s → k < m → markedAt s (markPath s p m t) k (path s.fanout p k) ≡ true
-    unfolding markPath markedAt
+    pub path-on : (m k : ℕ) → m ≤ layer_count s → k < m → marked_at s (mark_path s p m t) k (path s.fanout p k) ≡ true
+    unfolding mark_path marked_at
     path-on zero k l h = absurd (omega arith)
     path-on (suc m) k l h =
-        let r = room (markPath s p m t) m (path s.fanout p m) (path-long m) (path-node s p m wide there (omega arith)) in
+        let r = room (mark_path s p m t) m (path s.fanout p m) (path-long m) (path-node s p m wide there (omega arith)) in
         by_last k m h
-        (λ low. mark_stays (markPath s p m t) _ _ r (path-on m k (omega arith) low))
-        (λ q. subst (λ y. marked (mark (markPath s p m t) (place s m (path s.fanout p m))) (place s y (path s.fanout p y)) ≡ true) (sym q)
-        (marked-mark (markPath s p m t) _ r))
+        (λ low. mark_stays (mark_path s p m t) _ _ r (path-on m k (omega arith) low))
+        (λ q. subst (λ y. marked (mark (mark_path s p m t) (place s m (path s.fanout p m))) (place s y (path s.fanout p y)) ≡ true) (sym q)
+        (marked-mark (mark_path s p m t) _ r))
 
     -- a path adds one mark for each layer at most
-    pub marks-path : (m : ℕ) → m ≤ layer_count s → marks s (markPath s p m t) ≤ m + marks s t
-    unfolding markPath
+    pub marks-path : (m : ℕ) → m ≤ layer_count s → marks s (mark_path s p m t) ≤ m + marks s t
+    unfolding mark_path
     marks-path zero l = omega arith
     marks-path (suc m) l =
         let a = marks-path m (omega arith) in
-        let b = marks-mark (markPath s p m t) m (path s.fanout p m) (path-long m) (path-node s p m wide there (omega arith)) in
+        let b = marks-mark (mark_path s p m t) m (path s.fanout p m) (path-long m) (path-node s p m wide there (omega arith)) in
         omega arith

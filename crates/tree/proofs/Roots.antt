@@ -6,11 +6,11 @@ use Rattle.image.specs.Pages.{count}
 use Rattle.tree.specs.declared.answer.Answer.{Answer}
 use Rattle.tree.specs.declared.answer.Answer.TheVariants.{Refused, Opened, Done, Stepped, RootRead, Counted}
 use Rattle.tree.specs.Calls.{Call, Open, Put, Withdraw, Step, Root, Stale, told, answer_of, buffer_of, state_of, root_rows, root_answer, root_out, stale_rows, stale_answer}
-use Rattle.tree.specs.Laws.{rootAfter, RootTrue, CountTrue}
+use Rattle.tree.specs.Laws.{root_after, RootTrue, CountTrue}
 use Rattle.tree.specs.Marks.{marks}
 use Rattle.tree.specs.Runs.{Making, Accepted, shape_in, state_after, Event, did, events, put_in}
 use Rattle.tree.specs.Shapes.{root_layer, layer_count, Node}
-use Rattle.tree.specs.Trees.{treeRoot}
+use Rattle.tree.specs.Trees.{tree_root}
 use Rattle.tree.specs.Views.{State, View, digest_at}
 use Rattle.tree.proofs.Events.{pages_same}
 use Rattle.tree.proofs.Invariant.{seal, Inv, inv-run, digest-true, some-pages}
@@ -75,26 +75,26 @@ module _ (m : Making) (acc : Accepted m) where
 
   module _ (s : State) (es : List Event) (i : Inv m s es) where
     -- with no node marked, the root's digest is the tree's
-    pub root-held : marks (shape_in m) s.table ≡ 0 → digest_at (seal m s) (root_layer (shape_in m)) 0 ≡ rootAfter m es
-    unfolding treeRoot
+    pub root-held : marks (shape_in m) s.table ≡ 0 → digest_at (seal m s) (root_layer (shape_in m)) 0 ≡ root_after m es
+    unfolding tree_root
     root-held e = digest-true m s es i _ _ root-node (marks-zero (shape_in m) s.table e _ _ root-node)
 
     -- a root that is given out is the tree's
     root-given : (out : List ℕ) → answer_of (seal m s) (Root out) ≡ RootRead
-        → buffer_of (seal m s) (Root out) ≡ rootAfter m (did (Root out) (answer_of (seal m s) (Root out)) ∷ es)
+        → buffer_of (seal m s) (Root out) ≡ root_after m (did (Root out) (answer_of (seal m s) (Root out)) ∷ es)
     unfolding answer_of buffer_of root_answer root_out put_in
     root-given out e =
         let ok : root_answer (seal m s) (length out) ≡ Ok tt = root_ok _ e in
         let z : marks (shape_in m) s.table ≡ 0 = eqb-true _ _ (not-false _ (passed-from-ok (root_rows (seal m s) (length out)) tt tt ok).1.1.1.1.0) in
         ap (λ r. cond (is_ok r) (digest_at (seal m s) (root_layer (shape_in m)) 0) out) ok
-        ∙ root-held z ∙ ap (treeRoot m.hash (count m.image)) (sym (pages_same m _ es refl))
+        ∙ root-held z ∙ ap (tree_root m.hash (count m.image)) (sym (pages_same m _ es refl))
 
   pub root-true : (calls : List Call) → RootTrue m calls
   unfolding events
   root-true calls = by_kind _ (seal m (state_after m calls)) RootRead (omega arith) go
     where
       go : (c : Call) → kind_of c ≡ 4 → answer_of (seal m (state_after m calls)) c ≡ RootRead
-          → buffer_of (seal m (state_after m calls)) c ≡ rootAfter m (did c (answer_of (seal m (state_after m calls)) c) ∷ events m calls)
+          → buffer_of (seal m (state_after m calls)) c ≡ root_after m (did c (answer_of (seal m (state_after m calls)) c) ∷ events m calls)
       go (Open p out) k e = absurd (omega arith)
       go (Put p bytes) k e = absurd (omega arith)
       go (Withdraw p) k e = absurd (omega arith)

@@ -8,11 +8,11 @@ use Rattle.image.specs.Pages.{count, page_at}
 use Rattle.nodehash.specs.Hashing.{digest_length}
 use Rattle.tree.specs.declared.answer.Answer.TheVariants.{Refused, Stepped, RootRead}
 use Rattle.tree.specs.Calls.{Call, Open, Put, Withdraw, Step, Root, Stale, told, answer_of, buffer_of, state_of, next_node, is_unreadable, work_rows, page_rows, work_on, step_table, step_answer, step_state, root_rows, root_answer, root_out}
-use Rattle.tree.specs.Laws.{IsStep, StepsAlone, reported, rootAfter, blocksAfter, marksLeft, Clear, StepsAccepted, RootWaits, RootComes, BlocksSum}
+use Rattle.tree.specs.Laws.{IsStep, StepsAlone, reported, root_after, blocks_after, marks_left, Clear, StepsAccepted, RootWaits, RootComes, BlocksSum}
 use Rattle.tree.specs.Marks.{marks, short}
-use Rattle.tree.specs.Runs.{Making, Accepted, shape_in, ground_of, state_after, view_after, answer_to, Event, events, accepted, put_in, page_after, blocks_in}
+use Rattle.tree.specs.Runs.{Making, Accepted, shape_in, base_of, state_after, view_after, answer_to, Event, events, accepted, put_in, page_after, blocks_in}
 use Rattle.tree.specs.Shapes.{layer_size, root_layer}
-use Rattle.tree.specs.Trees.{treeBlocks}
+use Rattle.tree.specs.Trees.{tree_blocks}
 use Rattle.tree.specs.Views.{State, digest_at}
 use Rattle.tree.proofs.Events.{pages_same}
 use Rattle.tree.proofs.Invariant.{seal, Inv, inv-run, input-true, step-unmarked, step-marked-other}
@@ -44,12 +44,12 @@ module _ (m : Making) (s : State) (es : List Event) (i : Inv m s es) where
       (step-unmarked m s es i k₀ j₀ ready) (step-marked-other m s es i k₀ j₀ ready)
 
   step-blocks : (k₀ j₀ : ℕ) → Ready (shape_in m) s.table k₀ j₀
-      → blocks_in (Stepped (work_on (seal m s) (Some (k₀, j₀)))) ≡ blocksAfter m es k₀ j₀
-  unfolding work_on treeBlocks
+      → blocks_in (Stepped (work_on (seal m s) (Some (k₀, j₀)))) ≡ blocks_after m es k₀ j₀
+  unfolding work_on tree_blocks
   step-blocks k₀ j₀ ready = ap (λ x. m.hash.blocks k₀ (length x)) (input-true m s es i k₀ j₀ ready)
 
   module _ (acc : Accepted m) where
-    not-void : (ground_of m).void ≡ false
+    not-void : (base_of m).void ≡ false
     not-void = ap (λ r. not (is_ok r)) acc
 
     not_short : short (shape_in m) s.table ≡ false
@@ -89,8 +89,8 @@ module _ (m : Making) (s : State) (es : List Event) (i : Inv m s es) where
       -- a step with a node marked takes one mark away, and reports the blocks of its node
       record Lowered : Type 0 where
         marks-less : marks (shape_in m) s.table ≡ 1 + marks (shape_in m) (state_of (seal m s) (Step work)).table
-        blocks-less : weighed (shape_in m) (blocksAfter m es) s.table
-            ≡ blocks_in (answer_of (seal m s) (Step work)) + weighed (shape_in m) (blocksAfter m es) (state_of (seal m s) (Step work)).table
+        blocks-less : weighed (shape_in m) (blocks_after m es) s.table
+            ≡ blocks_in (answer_of (seal m s) (Step work)) + weighed (shape_in m) (blocks_after m es) (state_of (seal m s) (Step work)).table
 
       step-lowers : 0 < marks (shape_in m) s.table → Lowered
       unfolding marks
@@ -105,8 +105,8 @@ module _ (m : Making) (s : State) (es : List Event) (i : Inv m s es) where
                 marks-less = rw b (step-weighed v.0 v.1 r (λ k j. 1));
                 blocks-less =
                     rw (a, b)
-                    (step-weighed v.0 v.1 r (blocksAfter m es)
-                    ∙ ap (λ x. x + weighed (shape_in m) (blocksAfter m es) (step_table (seal m s) (Some v))) (sym (step-blocks v.0 v.1 r)));
+                    (step-weighed v.0 v.1 r (blocks_after m es)
+                    ∙ ap (λ x. x + weighed (shape_in m) (blocks_after m es) (step_table (seal m s) (Some v))) (sym (step-blocks v.0 v.1 r)));
               }
           go None e = absurd (let z = weighed-none (shape_in m) (λ k j. 1) s.table (next-none (shape_in m) s.table e) in omega arith)
 
@@ -124,7 +124,7 @@ module _ (m : Making) (s : State) (es : List Event) (i : Inv m s es) where
       root-refused some = ap (told (λ _. RootRead)) (root-asks false (ne_eqb (marks (shape_in m) s.table) 0 (omega arith)))
 
       root-read : marks (shape_in m) s.table ≡ 0
-          → (answer_of (seal m s) (Root out) ≡ RootRead) × (buffer_of (seal m s) (Root out) ≡ rootAfter m es)
+          → (answer_of (seal m s) (Root out) ≡ RootRead) × (buffer_of (seal m s) (Root out) ≡ root_after m es)
       unfolding answer_of told buffer_of root_out
       root-read e =
           let r = root-asks true (eq-eqb (marks (shape_in m) s.table) 0 e) in (
@@ -149,11 +149,11 @@ module _ (m : Making) (acc : Accepted m) (calls : List Call) (clear : Clear m ca
       (λ work more fits h. pages_same m _ (events m (more ++ calls)) refl ∙ h)
 
   record Left (more : List Call) : Type 0 where
-    marks-left : marksLeft m (more ++ calls) + length more ≡ marksLeft m calls
-    blocks-left : reported m calls more + weighed (shape_in m) (blocksAfter m (events m calls)) (state_after m (more ++ calls)).table
-        ≡ weighed (shape_in m) (blocksAfter m (events m calls)) (state_after m calls).table
+    marks-left : marks_left m (more ++ calls) + length more ≡ marks_left m calls
+    blocks-left : reported m calls more + weighed (shape_in m) (blocks_after m (events m calls)) (state_after m (more ++ calls)).table
+        ≡ weighed (shape_in m) (blocks_after m (events m calls)) (state_after m calls).table
 
-  left_at : (more : List Call) → StepsAlone more → length more ≤ marksLeft m calls → Left more
+  left_at : (more : List Call) → StepsAlone more → length more ≤ marks_left m calls → Left more
   unfolding state_after reported
   left_at [] h l = record { marks-left = omega arith; blocks-left = omega arith }
   left_at (c ∷ more) h l =
@@ -164,9 +164,9 @@ module _ (m : Making) (acc : Accepted m) (calls : List Call) (clear : Clear m ca
       (λ work fits.
       let low = step-lowers m _ _ (inv_at more) acc clear.readable work fits (omega arith) in
       let d = low.marks-less in
-      let f = subst (λ page. weighed (shape_in m) (treeBlocks m.hash (count m.image) page) (state_after m (more ++ calls)).table
+      let f = subst (λ page. weighed (shape_in m) (tree_blocks m.hash (count m.image) page) (state_after m (more ++ calls)).table
       ≡ blocks_in (answer_to m (more ++ calls) (Step work))
-      + weighed (shape_in m) (treeBlocks m.hash (count m.image) page) (state_of (view_after m (more ++ calls)) (Step work)).table)
+      + weighed (shape_in m) (tree_blocks m.hash (count m.image) page) (state_of (view_after m (more ++ calls)) (Step work)).table)
       (pages-at more h.1) low.blocks-less in
       record { marks-left = omega arith; blocks-left = omega arith })
       c h.0
@@ -181,7 +181,7 @@ module _ (m : Making) (acc : Accepted m) (calls : List Call) (clear : Clear m ca
       let a = (left_at more h (omega arith)).marks-left in
       root-refused m _ _ (inv_at more) acc (closed_at more h) out fits (omega arith)
 
-  none_left : (more : List Call) → StepsAlone more → length more ≡ marksLeft m calls → marksLeft m (more ++ calls) ≡ 0
+  none_left : (more : List Call) → StepsAlone more → length more ≡ marks_left m calls → marks_left m (more ++ calls) ≡ 0
   none_left more h l = let a = (left_at more h (omega arith)).marks-left in omega arith
 
   pub root-comes : RootComes m calls
@@ -190,6 +190,6 @@ module _ (m : Making) (acc : Accepted m) (calls : List Call) (clear : Clear m ca
   pub blocks-sum : BlocksSum m calls
   blocks-sum more h l =
       let a = (left_at more h (omega arith)).blocks-left in
-      let z = weighed-none (shape_in m) (blocksAfter m (events m calls)) (state_after m (more ++ calls)).table
+      let z = weighed-none (shape_in m) (blocks_after m (events m calls)) (state_after m (more ++ calls)).table
       (marks-zero (shape_in m) (state_after m (more ++ calls)).table (none_left more h l)) in
       omega arith

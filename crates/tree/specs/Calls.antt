@@ -8,7 +8,7 @@ use Rattle.nodehash.specs.Hashing.{digest_length}
 use Rattle.tree.specs.declared.answer.Answer.{Answer}
 use Rattle.tree.specs.declared.answer.Answer.TheVariants.{Refused, Opened, Done, Stepped, RootRead, Counted}
 use Rattle.tree.specs.declared.answer.Worked.{Worked}
-use Rattle.tree.specs.Marks.{marks, markPath, next, short}
+use Rattle.tree.specs.Marks.{marks, mark_path, next, short}
 use Rattle.tree.specs.Records.{store}
 use Rattle.tree.specs.Shapes.{layer_count, root_layer, place, is_last}
 use Rattle.tree.specs.Trees.{input}
@@ -18,9 +18,9 @@ use Rattle.tree.specs.Views.{View, State, shape, page_bytes, is_open, digest_at}
 -- 46 the seal is void; 48 a page is open; then as a write of the page would be refused: 35, 36, 37, 38.
 abbrev pub open_rows : View → ℕ → ℕ → List Row
 open_rows v p n =
-    on v.ground.void SealVoid 0
+    on v.base.void SealVoid 0
     ∷ on (is_some v.state.opened) PageOpen 0
-    ∷ write_rows v.ground.count (length (page_bytes v.state p)) (v.ground.state_at p) p n
+    ∷ write_rows v.base.count (length (page_bytes v.state p)) (v.base.state_at p) p n
 
 -- It answers the page of the ticket.
 unfoldable pub open_answer : View → ℕ → ℕ → Result ℕ Fault
@@ -38,7 +38,7 @@ open_state v p n =
 -- 46; 45 the table is short; 49 the ticket's page p is not the open one; 36 there are not as many bytes as the page has.
 abbrev pub put_rows : View → ℕ → ℕ → List Row
 put_rows v p n =
-    on v.ground.void SealVoid 0
+    on v.base.void SealVoid 0
     ∷ on (short (shape v) v.state.table) TableLength 0
     ∷ on (not (is_open v.state.opened p)) TicketPage 0
     ∷ on (not (n == length (page_bytes v.state p))) PageBuffer p
@@ -53,13 +53,13 @@ put_state v p bytes =
     (record {
       pages = slice_set v.state.pages p bytes;
       opened = None;
-      table = markPath (shape v) p (layer_count (shape v)) v.state.table;
+      table = mark_path (shape v) p (layer_count (shape v)) v.state.table;
     })
     v.state
 
 -- Withdraw closes the page and does nothing else: 46; 49.
 abbrev pub withdraw_rows : View → ℕ → List Row
-withdraw_rows v p = on v.ground.void SealVoid 0 ∷ on (not (is_open v.state.opened p)) TicketPage 0 ∷ []
+withdraw_rows v p = on v.base.void SealVoid 0 ∷ on (not (is_open v.state.opened p)) TicketPage 0 ∷ []
 
 unfoldable pub withdraw_answer : View → ℕ → Result (Unit {0}) Fault
 withdraw_answer v p = unless (withdraw_rows v p) tt
@@ -72,7 +72,7 @@ withdraw_state v p =
 -- 46; 45; 47 the work buffer is not 4,096 bytes long; 37 the node's page cannot be read.
 abbrev pub work_rows : View → ℕ → List Row
 work_rows v n =
-    on v.ground.void SealVoid 0
+    on v.base.void SealVoid 0
     ∷ on (short (shape v) v.state.table) TableLength 0
     ∷ on (not (n == 4096)) WorkBuffer 0
     ∷ []
@@ -83,7 +83,7 @@ next_node v = next (shape v) v.state.table
 
 -- a node is a page that cannot be read
 unfoldable pub is_unreadable : View → Option (ℕ × ℕ) → Bool
-is_unreadable v (Some node) = node.0 == 0 && not (v.ground.state_at node.1).readable
+is_unreadable v (Some node) = node.0 == 0 && not (v.base.state_at node.1).readable
 is_unreadable v None = false
 
 unfoldable pub offset_of : Option (ℕ × ℕ) → ℕ
@@ -95,7 +95,7 @@ page_rows v = on (is_unreadable v (next_node v)) PageUnreadable (offset_of (next
 
 -- the input of node k:j, from the pages and from the digests that the table holds
 unfoldable pub input_of : View → ℕ → ℕ → List ℕ
-input_of v k j = input v.ground.hash v.ground.count (page_bytes v.state) (digest_at v) k j
+input_of v k j = input v.base.hash v.base.count (page_bytes v.state) (digest_at v) k j
 
 -- what is answered of the node that was worked: its depth, its offset and its blocks
 unfoldable pub work_on : View → Option (ℕ × ℕ) → Option Worked
@@ -103,7 +103,7 @@ work_on v (Some node) =
     Some (record {
       depth = node.0;
       offset = node.1;
-      blocks = v.ground.hash.blocks node.0 (length (input_of v node.0 node.1));
+      blocks = v.base.hash.blocks node.0 (length (input_of v node.0 node.1));
     })
 work_on v None = None
 
@@ -111,7 +111,7 @@ work_on v None = None
 unfoldable pub step_table : View → Option (ℕ × ℕ) → List ℕ
 step_table v (Some node) =
     store v.state.table (place (shape v) node.0 node.1)
-    (v.ground.hash.digest node.0 node.1 (is_last (shape v) node.0 node.1) (input_of v node.0 node.1))
+    (v.base.hash.digest node.0 node.1 (is_last (shape v) node.0 node.1) (input_of v node.0 node.1))
 step_table v None = v.state.table
 
 unfoldable pub step_answer : View → ℕ → Result (Option Worked) Fault
@@ -131,9 +131,9 @@ step_state v n =
 -- 46; 45; 52 the output is not as long as the digest; 50 a page is open; 51 a node is marked.
 abbrev pub root_rows : View → ℕ → List Row
 root_rows v n =
-    on v.ground.void SealVoid 0
+    on v.base.void SealVoid 0
     ∷ on (short (shape v) v.state.table) TableLength 0
-    ∷ on (not (n == digest_length v.ground.hash)) RootBuffer 0
+    ∷ on (not (n == digest_length v.base.hash)) RootBuffer 0
     ∷ on (is_some v.state.opened) RootWhileOpen 0
     ∷ on (not (marks (shape v) v.state.table == 0)) NodeMarked 0
     ∷ []
@@ -147,7 +147,7 @@ root_out v out = cond (is_ok (root_answer v (length out))) (digest_at v (root_la
 
 -- Stale count answers how many nodes are marked: 46; 45.
 abbrev pub stale_rows : View → List Row
-stale_rows v = on v.ground.void SealVoid 0 ∷ on (short (shape v) v.state.table) TableLength 0 ∷ []
+stale_rows v = on v.base.void SealVoid 0 ∷ on (short (shape v) v.state.table) TableLength 0 ∷ []
 
 unfoldable pub stale_answer : View → Result ℕ Fault
 stale_answer v = unless (stale_rows v) (marks (shape v) v.state.table)
@@ -161,7 +161,7 @@ rises_within a n (p ∷ pages) = nat_le a p && (nat_lt p n && rises_within (suc 
 -- 46; 53 the list does not rise strictly, or a page is absent.
 abbrev pub estimate_rows : View → List ℕ → List Row
 estimate_rows v pages =
-    on v.ground.void SealVoid 0 ∷ on (not (rises_within 0 v.ground.count pages)) PageList 0 ∷ []
+    on v.base.void SealVoid 0 ∷ on (not (rises_within 0 v.base.count pages)) PageList 0 ∷ []
 
 unfoldable pub estimate_answer : View → List ℕ → Result ℕ Fault
 estimate_answer v pages = unless (estimate_rows v pages) (length pages * layer_count (shape v))

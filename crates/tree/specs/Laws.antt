@@ -7,11 +7,11 @@ use Rattle.nodehash.specs.Hashing.{digest_length, fanout_of}
 use Rattle.tree.specs.declared.answer.Answer.TheVariants.{Refused, RootRead, Counted}
 use Rattle.tree.specs.declared.shape.Shape.{Shape}
 use Rattle.tree.specs.Calls.{Call, Open, Put, Withdraw, Step, Root, Stale, estimate_answer}
-use Rattle.tree.specs.Marks.{markedAt, held_at, marks}
+use Rattle.tree.specs.Marks.{marked_at, held_at, marks}
 use Rattle.tree.specs.Records.{stored, zeros}
 use Rattle.tree.specs.Runs.{Making, Event, did, shape_in, state_after, view_after, answer_to, buffer_after, events, accepted, put_in, page_after, last_worked, is_stale, blocks_in}
 use Rattle.tree.specs.Shapes.{Node, layer_size, layer_count, root_layer, over_nodes}
-use Rattle.tree.specs.Trees.{tree, treeBlocks, treeRoot}
+use Rattle.tree.specs.Trees.{tree, tree_blocks, tree_root}
 
 -- calls that are steps alone, each with a work buffer of 4,096 bytes
 abbrev pub IsStep : Call → Type 0
@@ -33,50 +33,50 @@ reported m calls (c ∷ more) = reported m calls more + blocks_in (answer_to m (
 
 module _ (m : Making) where
   -- the digest that the tree of the image as it is after these events gives node k:j
-  abbrev pub digestAfter : List Event → ℕ → ℕ → List ℕ
-  digestAfter es k j = tree m.hash (count m.image) (page_after m es) k j
+  abbrev pub digest_after : List Event → ℕ → ℕ → List ℕ
+  digest_after es k j = tree m.hash (count m.image) (page_after m es) k j
 
   -- that tree's root
-  abbrev pub rootAfter : List Event → List ℕ
-  rootAfter es = treeRoot m.hash (count m.image) (page_after m es)
+  abbrev pub root_after : List Event → List ℕ
+  root_after es = tree_root m.hash (count m.image) (page_after m es)
 
   -- the blocks that it gives node k:j
-  abbrev pub blocksAfter : List Event → ℕ → ℕ → ℕ
-  blocksAfter es k j = treeBlocks m.hash (count m.image) (page_after m es) k j
+  abbrev pub blocks_after : List Event → ℕ → ℕ → ℕ
+  blocks_after es k j = tree_blocks m.hash (count m.image) (page_after m es) k j
 
   -- what a node holds that was last worked when these events had happened, or never
-  unfoldable pub heldFrom : ℕ → ℕ → Option (List Event) → List ℕ
-  heldFrom k j (Some before) = stored (digestAfter before k j)
-  heldFrom k j None = zeros
+  unfoldable pub held_from : ℕ → ℕ → Option (List Event) → List ℕ
+  held_from k j (Some before) = stored (digest_after before k j)
+  held_from k j None = zeros
 
 module _ (m : Making) (calls : List Call) where
   -- after the run, node k:j is marked
-  abbrev pub isMarked : ℕ → ℕ → Bool
-  isMarked k j = markedAt (shape_in m) (state_after m calls).table k j
+  abbrev pub is_marked : ℕ → ℕ → Bool
+  is_marked k j = marked_at (shape_in m) (state_after m calls).table k j
 
   -- and holds these 64 bytes
   abbrev pub holds : ℕ → ℕ → List ℕ
   holds k j = held_at (shape_in m) (state_after m calls).table k j
 
   -- so many nodes are marked
-  abbrev pub marksLeft : ℕ
-  marksLeft = marks (shape_in m) (state_after m calls).table
+  abbrev pub marks_left : ℕ
+  marks_left = marks (shape_in m) (state_after m calls).table
 
   -- Every unmarked node holds the digest that the tree of the image as it then is gives it.
   abbrev pub UnmarkedTrue : Type 0
-  UnmarkedTrue = (k j : ℕ) → Node (shape_in m) k j → isMarked k j ≡ false → holds k j ≡ stored (digestAfter m (events m calls) k j)
+  UnmarkedTrue = (k j : ℕ) → Node (shape_in m) k j → is_marked k j ≡ false → holds k j ≡ stored (digest_after m (events m calls) k j)
 
   -- A node is marked exactly when it was never worked or an accepted put on a page beneath it came since.
   abbrev pub MarkedStale : Type 0
-  MarkedStale = (k j : ℕ) → Node (shape_in m) k j → isMarked k j ≡ is_stale (fanout_of m.hash) k j (events m calls)
+  MarkedStale = (k j : ℕ) → Node (shape_in m) k j → is_marked k j ≡ is_stale (fanout_of m.hash) k j (events m calls)
 
   -- A marked node holds the digest that the tree gave it when it was last worked, or zeros if it never was.
   abbrev pub MarkedOld : Type 0
-  MarkedOld = (k j : ℕ) → Node (shape_in m) k j → isMarked k j ≡ true → holds k j ≡ heldFrom m k j (last_worked k j (events m calls))
+  MarkedOld = (k j : ℕ) → Node (shape_in m) k j → is_marked k j ≡ true → holds k j ≡ held_from m k j (last_worked k j (events m calls))
 
   -- A root that a further call gives out is the root of the tree of the image as it then is.
   abbrev pub RootTrue : Type 0
-  RootTrue = (c : Call) → answer_to m calls c ≡ RootRead → buffer_after m calls c ≡ rootAfter m (events m (c ∷ calls))
+  RootTrue = (c : Call) → answer_to m calls c ≡ RootRead → buffer_after m calls c ≡ root_after m (events m (c ∷ calls))
 
   -- A further stale count that is accepted answers how many nodes are marked.
   abbrev pub CountTrue : Type 0
@@ -94,23 +94,23 @@ module _ (m : Making) (calls : List Call) where
   -- After fewer steps than nodes are marked, a root reading gets 51.
   abbrev pub RootWaits : Type 0
   RootWaits =
-      (more : List Call) → StepsAlone more → length more < marksLeft
+      (more : List Call) → StepsAlone more → length more < marks_left
       → (out : List ℕ) → length out ≡ digest_length m.hash
       → answer_to m (more ++ calls) (Root out) ≡ Refused (fault NodeMarked 0)
 
   -- After as many it gives the root.
   abbrev pub RootComes : Type 0
   RootComes =
-      (more : List Call) → StepsAlone more → length more ≡ marksLeft
+      (more : List Call) → StepsAlone more → length more ≡ marks_left
       → (out : List ℕ) → length out ≡ digest_length m.hash
       → (answer_to m (more ++ calls) (Root out) ≡ RootRead)
-      × (buffer_after m (more ++ calls) (Root out) ≡ rootAfter m (events m (more ++ calls)))
+      × (buffer_after m (more ++ calls) (Root out) ≡ root_after m (events m (more ++ calls)))
 
   -- Their reported blocks sum to the blocks that the tree gives the nodes that were marked.
   abbrev pub BlocksSum : Type 0
   BlocksSum =
-      (more : List Call) → StepsAlone more → length more ≡ marksLeft
-      → reported m calls more ≡ over_nodes (shape_in m) (λ k j. cond (isMarked k j) (blocksAfter m (events m calls) k j) 0)
+      (more : List Call) → StepsAlone more → length more ≡ marks_left
+      → reported m calls more ≡ over_nodes (shape_in m) (λ k j. cond (is_marked k j) (blocks_after m (events m calls) k j) 0)
 
   -- The law of this run.
   pub record Holds : Type 0 where
@@ -133,7 +133,7 @@ put_count m calls (c ∷ more) = put_count m calls more + cond (is_some (put_in 
 abbrev pub Suffices : Making → List Call → List Call → Type 0
 Suffices m calls more =
     (pages : List ℕ) (n : ℕ) → estimate_answer (view_after m calls) pages ≡ Ok n → put_count m calls more ≤ length pages
-    → marksLeft m (more ++ calls) ≤ n
+    → marks_left m (more ++ calls) ≤ n
 
 -- The layers of a tree end at its root.
 pub record Ends (s : Shape) : Type 0 where

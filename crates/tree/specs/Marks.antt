@@ -7,8 +7,8 @@ use Rattle.tree.specs.Shapes.{layer_size, layer_count, node_count, over_nodes, p
 
 module _ (s : Shape) where
   -- node k:j is marked
-  unfoldable pub markedAt : List ℕ → ℕ → ℕ → Bool
-  markedAt t k j = marked t (place s k j)
+  unfoldable pub marked_at : List ℕ → ℕ → ℕ → Bool
+  marked_at t k j = marked t (place s k j)
 
   -- the 64 bytes that node k:j holds
   unfoldable pub held_at : List ℕ → ℕ → ℕ → List ℕ
@@ -16,24 +16,24 @@ module _ (s : Shape) where
 
   -- how many nodes are marked
   unfoldable pub marks : List ℕ → ℕ
-  marks t = over_nodes s (λ k j. cond (markedAt t k j) 1 0)
+  marks t = over_nodes s (λ k j. cond (marked_at t k j) 1 0)
 
   -- the leftmost marked node of layer k
   unfoldable pub leftmost : List ℕ → ℕ → Option ℕ
-  leftmost t k = first (markedAt t k) (layer_size s k)
+  leftmost t k = first (marked_at t k) (layer_size s k)
 
   -- the lowest layer that has a marked node
   unfoldable pub lowest : List ℕ → Option ℕ
   lowest t = first (λ k. is_some (leftmost t k)) (layer_count s)
 
   -- a node of layer k
-  unfoldable pub inLayer : ℕ → Option ℕ → Option (ℕ × ℕ)
-  inLayer k (Some j) = Some (k, j)
-  inLayer k None = None
+  unfoldable pub in_layer : ℕ → Option ℕ → Option (ℕ × ℕ)
+  in_layer k (Some j) = Some (k, j)
+  in_layer k None = None
 
   -- the leftmost marked node of a layer
   unfoldable pub in_table : List ℕ → Option ℕ → Option (ℕ × ℕ)
-  in_table t (Some k) = inLayer k (leftmost t k)
+  in_table t (Some k) = in_layer k (leftmost t k)
   in_table t None = None
 
   -- the node that is worked next: the leftmost marked node of the lowest layer that has one
@@ -41,9 +41,9 @@ module _ (s : Shape) where
   next t = in_table t (lowest t)
 
   -- the table with the path of page p marked in the first m layers
-  unfoldable pub markPath : ℕ → ℕ → List ℕ → List ℕ
-  markPath p zero t = t
-  markPath p (suc m) t = mark (markPath p m t) (place s m (path s.fanout p m))
+  unfoldable pub mark_path : ℕ → ℕ → List ℕ → List ℕ
+  mark_path p zero t = t
+  mark_path p (suc m) t = mark (mark_path p m t) (place s m (path s.fanout p m))
 
   -- the table is shorter than the records of its nodes
   unfoldable pub short : List ℕ → Bool

@@ -13,7 +13,7 @@ use Rattle.tree.specs.Marks.{short}
 use Rattle.tree.specs.Records.{fresh}
 use Rattle.tree.specs.Shapes.{layer_count, node_count, beneath}
 use Rattle.tree.specs.Trees.{shape_of}
-use Rattle.tree.specs.Views.{Ground, State, View}
+use Rattle.tree.specs.Views.{Base, State, View}
 
 -- What a seal is made from.
 pub record Making : Type 0 where
@@ -43,8 +43,8 @@ abbrev pub Accepted : Making → Type 0
 Accepted m = check_answer m ≡ Ok tt
 
 -- What the seal keeps; where the check refuses, it is void.
-abbrev pub ground_of : Making → Ground
-ground_of m = record {
+abbrev pub base_of : Making → Base
+base_of m = record {
   hash = m.hash;
   count = count m.image;
   state_at = λ p. (page_at m.image p).state;
@@ -63,11 +63,11 @@ made m = record { pages = map (λ (p : Page). p.bytes) m.image.pages; opened = N
 -- Runs go back in time: the last call stands first. Each call takes the seal as the call before left it.
 unfoldable pub state_after : Making → List Call → State
 state_after m [] = made m
-state_after m (c ∷ calls) = state_of (record { ground = ground_of m; state = state_after m calls }) c
+state_after m (c ∷ calls) = state_of (record { base = base_of m; state = state_after m calls }) c
 
 -- the seal after a making and calls
 abbrev pub view_after : Making → List Call → View
-view_after m calls = record { ground = ground_of m; state = state_after m calls }
+view_after m calls = record { base = base_of m; state = state_after m calls }
 
 -- what a further call answers
 abbrev pub answer_to : Making → List Call → Call → Answer

@@ -22,9 +22,9 @@ module _ (h : Hashing) (n : ℕ) where
       h.digest (suc k) j (is_last (shape_of h n) (suc k) j) (joined_from (tree page k) (j * fanout_of h) (group_size (shape_of h n) k j))
 
   -- the blocks of node k:j
-  unfoldable pub treeBlocks : (ℕ → List ℕ) → ℕ → ℕ → ℕ
-  treeBlocks page k j = h.blocks k (length (input page (tree page) k j))
+  unfoldable pub tree_blocks : (ℕ → List ℕ) → ℕ → ℕ → ℕ
+  tree_blocks page k j = h.blocks k (length (input page (tree page) k j))
 
   -- the root
-  unfoldable pub treeRoot : (ℕ → List ℕ) → List ℕ
-  treeRoot page = tree page (root_layer (shape_of h n)) 0
+  unfoldable pub tree_root : (ℕ → List ℕ) → List ℕ
+  tree_root page = tree page (root_layer (shape_of h n)) 0

@@ -7,7 +7,7 @@ use Rattle.tree.specs.Marks.{held_at}
 use Rattle.tree.specs.Trees.{shape_of}
 
 -- What a seal keeps from its making on.
-pub record Ground : Type 0 where
+pub record Base : Type 0 where
   pub hash : Hashing
   pub count : ℕ  -- how many pages its image has
   pub state_at : ℕ → PageState  -- what may be done with each page
@@ -20,12 +20,12 @@ pub record State : Type 0 where
   pub table : List ℕ  -- the node table
 
 pub record View : Type 0 where
-  pub ground : Ground
+  pub base : Base
   pub state : State
 
 -- the shape of its tree
 abbrev pub shape : View → Shape
-shape v = shape_of v.ground.hash v.ground.count
+shape v = shape_of v.base.hash v.base.count
 
 -- the bytes of page p
 unfoldable pub page_bytes : State → ℕ → List ℕ
@@ -38,4 +38,4 @@ is_open None p = false
 
 -- the digest that node k:j holds
 unfoldable pub digest_at : View → ℕ → ℕ → List ℕ
-digest_at v k j = take (digest_length v.ground.hash) (held_at (shape v) v.state.table k j)
+digest_at v k j = take (digest_length v.base.hash) (held_at (shape v) v.state.table k j)

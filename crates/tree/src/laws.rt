@@ -1,7 +1,7 @@
 // What holds of every tree and of every run.
 ghost use Rattle.std.specs.Prelude.{◌≡◌, ◌≤◌, List};
 ghost use Rattle.tree.specs.Calls.{Call};
-ghost use Rattle.tree.specs.Laws.{Ends, Holds, marksLeft, Suffices};
+ghost use Rattle.tree.specs.Laws.{Ends, Holds, marks_left, Suffices};
 ghost use Rattle.tree.specs.Runs.{Making, Accepted};
 ghost use Rattle.tree.specs.declared.shape.Shape.{Shape};
 
@@ -17,5 +17,5 @@ pub fn runs_hold()
 
 // What an estimate answers, once no node is marked, is enough for puts on the pages that it was given, in every run.
 pub fn estimates_suffice()
-    ensures { (m : Making) → Accepted m → (calls more : List Call) → marksLeft m calls ≡ 0 → Suffices m calls more }
+    ensures { (m : Making) → Accepted m → (calls more : List Call) → marks_left m calls ≡ 0 → Suffices m calls more }
 {}
