@@ -8,5 +8,5 @@ module _ (name name' size size' locked locked' : ℕ) (same : name ∷ size ∷ 
   pub same_size : size ≡ size'
   same_size = cc
 
-  pub same-locked : locked ≡ locked'
-  same-locked = cc
+  pub same_locked : locked ≡ locked'
+  same_locked = cc

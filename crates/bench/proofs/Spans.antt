@@ -49,7 +49,7 @@ module _ (ok : Bool) (size : ℕ) (state_at : ℕ → State) (buffer : List ℕ)
   pub read_answer_lem : r ≡ read_answer (image_of ok size state_at buffer) page n
   read_answer_lem = checked ∙ read_by (image_of ok size state_at buffer) sound e page n large readable seen
 
-  pub read-span : is_ok r ≡ true → Span size buffer page n (page_at (image_of ok size state_at buffer) page).bytes
-  read-span good =
+  pub read_span : is_ok r ≡ true → Span size buffer page n (page_at (image_of ok size state_at buffer) page).bytes
+  read_span good =
       let t = read_tells (image_of ok size state_at buffer) page n (sym (ap is_ok read_answer_lem) ∙ good) in
       span ok size state_at buffer sound page n t.0 t.1

@@ -17,8 +17,8 @@ module _ (size : ℕ) (buffer bytes : List ℕ) (page len : ℕ) (starts : page 
   put-length : length put ≡ length buffer
   put-length = search (rules, places, starts, long, e)
 
-  cut-there : cut size put page ≡ bytes
-  cut-there =
+  cut_there : cut size put page ≡ bytes
+  cut_there =
       let rest = drop (page * size) put in
       let between : take (page * size + len - page * size) rest ≡ bytes = between-put_mid (page * size) len buffer bytes (page * size + len) (omega (arith, starts)) (omega arith) in
       let part : page * size + len - page * size ≡ min size (length rest) = omega (arith, length-drop (page * size) put, put-length, starts) in
@@ -39,8 +39,8 @@ module _ (size : ℕ) (buffer bytes : List ℕ) (page len : ℕ) (starts : page 
     abbrev new : Pages
     new = cut_pages size n state_at put
 
-    page-each : (k : ℕ) → k < length new.pages → get_or new.pages k absent ≡ get_or (with_page old page bytes).pages k absent
-    page-each k h =
+    page_each : (k : ℕ) → k < length new.pages → get_or new.pages k absent ≡ get_or (with_page old page bytes).pages k absent
+    page_each k h =
         let less : k < n = omega (arith, cut-count size n state_at put) in
         let after = cut_at size n state_at put k less in
         let changed : Page = record { bytes = bytes; state = (page_at old page).state } in
@@ -48,7 +48,7 @@ module _ (size : ℕ) (buffer bytes : List ℕ) (page len : ℕ) (starts : page 
         λ ne same. after ∙ ap (λ b. record { bytes = b; state = state_at k }) same ∙ sym (cut_at size n state_at buffer k less) ∙ sym (get_or-set_other old.pages page k changed absent ne) in
         ⊎_elim
         (λ s. after ∙ ap (λ i. record { bytes = cut size put i; state = state_at i }) s
-        ∙ ap (λ b. record { bytes = b; state = state_at page }) cut-there
+        ∙ ap (λ b. record { bytes = b; state = state_at page }) cut_there
         ∙ sym (ap (λ (p : Page). record { bytes = bytes; state = p.state }) (cut_at size n state_at buffer page there))
         ∙ sym (get_or-set_same old.pages page changed absent (omega (arith, cut-count size n state_at buffer)))
         ∙ ap (λ i. get_or (with_page old page bytes).pages i absent) (sym s))
@@ -59,13 +59,13 @@ module _ (size : ℕ) (buffer bytes : List ℕ) (page len : ℕ) (starts : page 
     cut-written = ap (λ ps. record { size = size; pages = ps })
         (ext_get_or absent new.pages (with_page old page bytes).pages
         (cut-count size n state_at put ∙ sym (cut-count size n state_at buffer) ∙ sym (length-set old.pages page (record { bytes = bytes; state = (page_at old page).state })))
-        page-each)
+        page_each)
 
-  pub image-written : (ok : Bool) (state_at : ℕ → State) → page < count (image_of ok size state_at buffer)
+  pub image_written : (ok : Bool) (state_at : ℕ → State) → page < count (image_of ok size state_at buffer)
       → cond ok (cut_pages size (pages_of size (length buffer)) state_at put) no_pages ≡ with_page (image_of ok size state_at buffer) page bytes
-  image-written true state_at h =
+  image_written true state_at h =
       let n = pages_of size (length buffer) in cut-written n state_at (omega (arith, cut-count size n state_at buffer))
-  image-written false state_at h = absurd (omega arith)
+  image_written false state_at h = absurd (omega arith)
 
 -- as the code has it: `last` is what the copy left in the part
 pub bench_written : (size q : ℕ) (buffer : List ℕ) (page : ℕ) (bytes last : List ℕ) → page < count (bench_made size q buffer)
@@ -78,4 +78,4 @@ bench_written size q buffer page bytes last h s same =
     ap (λ k. bench_made size q (put_mid (page * size) k buffer last)) part
     ∙ ap (λ b. bench_made size q (put_mid (page * size) n buffer b)) same
     ∙ ap (λ k. cond (is_ok (bench_answer size q k)) (cut_pages size (pages_of size k) (bench_state q) (put_mid (page * size) n buffer bytes)) no_pages) (put-length size buffer bytes page n starts s.long refl)
-    ∙ image-written size buffer bytes page n starts s.long refl (is_ok (bench_answer size q (length buffer))) (bench_state q) h
+    ∙ image_written size buffer bytes page n starts s.long refl (is_ok (bench_answer size q (length buffer))) (bench_state q) h

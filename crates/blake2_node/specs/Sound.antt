@@ -35,13 +35,13 @@ short l = by l.variant l.digest_high
     by B h = h
     by S h = omega arith
 
-blocks-few : (w : Width) (v : Variant) (k n : ℕ) → w.size ≡ (width_of v).size → n ≤ 4096 → blocks w k n ≤ 65
-blocks-few w B k n e few = rw e (cond_both (k == 0) 0 128 (λ b. (b + n - 1) / 128 + 1 ≤ 65) (λ none. omega arith) (λ some. omega arith))
-blocks-few w S k n e few = rw e (cond_both (k == 0) 0 64 (λ b. (b + n - 1) / 64 + 1 ≤ 65) (λ none. omega arith) (λ some. omega arith))
+blocks_few : (w : Width) (v : Variant) (k n : ℕ) → w.size ≡ (width_of v).size → n ≤ 4096 → blocks w k n ≤ 65
+blocks_few w B k n e few = rw e (cond_both (k == 0) 0 128 (λ b. (b + n - 1) / 128 + 1 ≤ 65) (λ none. omega arith) (λ some. omega arith))
+blocks_few w S k n e few = rw e (cond_both (k == 0) 0 64 (λ b. (b + n - 1) / 64 + 1 ≤ 65) (λ none. omega arith) (λ some. omega arith))
 
 pub few : (w : Width) (l : Label) (key : Option (List ℕ)) (depth n : ℕ) → n ≤ 4096 → blocks_of w (parts l) key depth n ≤ 65
 few w l key depth n h = by (fits w (parts l) key) refl
   where
     by : (b : Bool) → fits w (parts l) key ≡ b → cond b (node_blocks w (key_bytes key) depth n) 0 ≤ 65
-    by true e = blocks-few w l.variant _ n (fits_tells w (parts l) key e).0 h
+    by true e = blocks_few w l.variant _ n (fits_tells w (parts l) key e).0 h
     by false e = omega arith

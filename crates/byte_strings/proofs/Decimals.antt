@@ -17,18 +17,18 @@ own = numerals_by_value (λ ds. all_ascii_digits ds ≡ true) tells_all_ascii_di
 
 -- reading
 
-not-digits : (v : List ℕ) (i : ℕ) → i < length v → is_ascii_digit (get_or v i 0) ≡ false → all_ascii_digits v ≡ false
-not-digits [] i lt e = absurd (omega arith)
-not-digits (c ∷ v) zero lt e = rw e
-not-digits (c ∷ v) (suc i) lt e = go (is_ascii_digit c) (not-digits v i (omega arith) e)
+not_digits : (v : List ℕ) (i : ℕ) → i < length v → is_ascii_digit (get_or v i 0) ≡ false → all_ascii_digits v ≡ false
+not_digits [] i lt e = absurd (omega arith)
+not_digits (c ∷ v) zero lt e = rw e
+not_digits (c ∷ v) (suc i) lt e = go (is_ascii_digit c) (not_digits v i (omega arith) e)
   where
     go : (b : Bool) → all_ascii_digits v ≡ false → (b && all_ascii_digits v) ≡ false
     go true h = h
     go false h = refl
 
 -- a byte that is not a digit
-pub numbered-none : (v : List ℕ) (i : ℕ) → i < length v → is_ascii_digit (get_or v i 0) ≡ false → numbered v ≡ None
-numbered-none v i lt e = rw (not-digits v i lt e)
+pub numbered_none : (v : List ℕ) (i : ℕ) → i < length v → is_ascii_digit (get_or v i 0) ≡ false → numbered v ≡ None
+numbered_none v i lt e = rw (not_digits v i lt e)
 
 pub numbered_some : (v : List ℕ) (n : ℕ) → AllDigits 10 v → n ≡ digits_value 10 v → 1 ≤ length v → length v ≤ 4 → leading_zero v ≡ false → numbered v ≡ Some n
 numbered_some v n d e low high lead = rw (own.from v d, le-leb 1 (length v) low, le-leb (length v) 4 high, lead, e)
@@ -58,8 +58,8 @@ one_more v i n x lt dig e ds is =
 
 -- writing: the last digit
 
-pub digits-length : (n : ℕ) → 10 ≤ n → n < 2 ^ 16 → length (decimal n) ≡ length (decimal (n / 10)) + 1
-digits-length n low high = ap length (decimal_step n low (omega arith)) ∙ length_push (decimal (n / 10)) (48 + n % 10)
+pub digits_length : (n : ℕ) → 10 ≤ n → n < 2 ^ 16 → length (decimal n) ≡ length (decimal (n / 10)) + 1
+digits_length n low high = ap length (decimal_step n low (omega arith)) ∙ length_push (decimal (n / 10)) (48 + n % 10)
 
 pub last_digit : (n : ℕ) (a : List ℕ) {b c : List ℕ} → 10 ≤ n → n < 2 ^ 16 → b ≡ a ++ decimal (n / 10) → c ≡ b ++ ((48 + n % 10) ∷ []) → c ≡ a ++ decimal n
 last_digit n a low high p q =

@@ -14,16 +14,16 @@ module _ (v : List ℕ) (i : ℕ) (lt : 2 * i + 1 < length v) where
   pair =
       drop_more v (2 * i) 0 (omega arith) ∙ ap (λ xs. get_or v (2 * i) 0 ∷ xs) (drop_more v (2 * i + 1) 0 lt ∙ ap (λ n. get_or v (2 * i + 1) 0 ∷ drop n v) (omega arith))
 
-  pub unhex-more : (bs : List ℕ) (h l : ℕ) → nibble (get_or v (2 * i) 0) ≡ h → h < 16 → nibble (get_or v (2 * i + 1) 0) ≡ l → l < 16 → unhex bs (drop (2 * i) v) ≡ unhex (bs ++ ((16 * h + l) ∷ [])) (drop (2 * (i + 1)) v)
-  unhex-more bs h l eh hh el hl =
+  pub unhex_more : (bs : List ℕ) (h l : ℕ) → nibble (get_or v (2 * i) 0) ≡ h → h < 16 → nibble (get_or v (2 * i + 1) 0) ≡ l → l < 16 → unhex bs (drop (2 * i) v) ≡ unhex (bs ++ ((16 * h + l) ∷ [])) (drop (2 * (i + 1)) v)
+  unhex_more bs h l eh hh el hl =
       ap (unhex bs) pair ∙ cond-true (ltb (nibble (get_or v (2 * i) 0)) 16 && ltb (nibble (get_or v (2 * i + 1) 0)) 16) _ None (and_from _ _ (lt-ltb (nibble (get_or v (2 * i) 0)) 16 (omega arith)) (lt-ltb (nibble (get_or v (2 * i + 1) 0)) 16 (omega arith))) ∙ ap (λ n. unhex (bs ++ (n ∷ [])) (drop (2 * (i + 1)) v)) (omega arith)
 
-  pub unhex-stop-high : (bs : List ℕ) → nibble (get_or v (2 * i) 0) ≡ 16 → unhex bs (drop (2 * i) v) ≡ None
-  unhex-stop-high bs e =
+  pub unhex_stop_high : (bs : List ℕ) → nibble (get_or v (2 * i) 0) ≡ 16 → unhex bs (drop (2 * i) v) ≡ None
+  unhex_stop_high bs e =
       ap (unhex bs) pair ∙ ap (λ b. cond (b && ltb (nibble (get_or v (2 * i + 1) 0)) 16) (unhex (bs ++ ((16 * nibble (get_or v (2 * i) 0) + nibble (get_or v (2 * i + 1) 0)) ∷ [])) (drop (2 * (i + 1)) v)) None) (le-ltb (nibble (get_or v (2 * i) 0)) 16 (omega arith))
 
-  pub unhex-stop-low : (bs : List ℕ) → nibble (get_or v (2 * i + 1) 0) ≡ 16 → unhex bs (drop (2 * i) v) ≡ None
-  unhex-stop-low bs e =
+  pub unhex_stop_low : (bs : List ℕ) → nibble (get_or v (2 * i + 1) 0) ≡ 16 → unhex bs (drop (2 * i) v) ≡ None
+  unhex_stop_low bs e =
       ap (unhex bs) pair ∙ cond-false (ltb (nibble (get_or v (2 * i) 0)) 16 && ltb (nibble (get_or v (2 * i + 1) 0)) 16) _ None (and_right (ltb (nibble (get_or v (2 * i) 0)) 16) _ (le-ltb (nibble (get_or v (2 * i + 1) 0)) 16 (omega arith)))
 
 -- no bytes: an odd number of digits, too many, or one of them is not a digit
@@ -44,8 +44,8 @@ hex_within_odd n v e = none (leb (length v / 2) n) (unhex_odd [] v e)
 pub hex_within_long : (n : ℕ) (v : List ℕ) → n < length v / 2 → hex_within n v ≡ None
 hex_within_long n v h = cond-false (leb (length v / 2) n) (unhex [] v) None (lt-leb (length v / 2) n h)
 
-pub hex_within-none : (n : ℕ) (v : List ℕ) → unhex [] v ≡ None → hex_within n v ≡ None
-hex_within-none n v e = none (leb (length v / 2) n) e
+pub hex_within_none : (n : ℕ) (v : List ℕ) → unhex [] v ≡ None → hex_within n v ≡ None
+hex_within_none n v e = none (leb (length v / 2) n) e
 
 pub hex_within_some : (n : ℕ) (v : List ℕ) {bs : List ℕ} → length v / 2 ≤ n → unhex [] v ≡ Some bs → hex_within n v ≡ Some bs
 hex_within_some n v h e = cond-true (leb (length v / 2) n) (unhex [] v) None (le-leb (length v / 2) n h) ∙ e

@@ -56,5 +56,5 @@ exceeds n bs more h = lt-leb (length (bs ++ more)) n (omega (arith, length-appen
 pub appended_all : (n : ℕ) (bs more : List ℕ) → length bs + length more ≤ n → appended n bs more ≡ bs ++ more
 appended_all n bs more h = cond-true (leb (length (bs ++ more)) n) (bs ++ more) bs (fits n bs more h)
 
-pub appended-none : (n : ℕ) (bs more : List ℕ) → n < length bs + length more → appended n bs more ≡ bs
-appended-none n bs more h = cond-false (leb (length (bs ++ more)) n) (bs ++ more) bs (exceeds n bs more h)
+pub appended_none : (n : ℕ) (bs more : List ℕ) → n < length bs + length more → appended n bs more ≡ bs
+appended_none n bs more h = cond-false (leb (length (bs ++ more)) n) (bs ++ more) bs (exceeds n bs more h)

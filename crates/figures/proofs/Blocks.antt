@@ -46,32 +46,32 @@ module _ (said : Parts) (is_b : said.variant ≡ B) (t : TenPages said) where
   fit : fits blake2b said (Some t.key) ≡ true
   fit = rw is_b (eq-eqb (length t.key) said.key t.key_length)
 
-  blocks-by-label : (k n : ℕ) → h.blocks k n ≡ node_blocks blake2b t.key k n
-  blocks-by-label k n =
+  blocks_by_label : (k n : ℕ) → h.blocks k n ≡ node_blocks blake2b t.key k n
+  blocks_by_label k n =
       ap (λ (p : Parts). blocks_of blake2b p (Some t.key) k n) t.says ∙ ap (λ (b : Bool). cond b (node_blocks blake2b t.key k n) 0) fit
 
-  node-blocks : (k j : ℕ) → (k ≡ 0 → j < 10) → tree_blocks h 10 t.page k j ≡ blocks_at said k j
+  node_blocks_lem : (k j : ℕ) → (k ≡ 0 → j < 10) → tree_blocks h 10 t.page k j ≡ blocks_at said k j
   unfolding tree_blocks input blocks_at
-  node-blocks zero j low = blocks-by-label 0 (length (t.page j)) ∙ ap₂ (blocks blake2b) t.key_length (t.page_lengths j (low refl))
-  node-blocks (suc k) j low =
+  node_blocks_lem zero j low = blocks_by_label 0 (length (t.page j)) ∙ ap₂ (blocks blake2b) t.key_length (t.page_lengths j (low refl))
+  node_blocks_lem (suc k) j low =
       let inner : eqb (suc k) 0 ≡ false = ne_eqb (suc k) 0 (λ e. omega arith) in
       let size = group_size (shape_of h 10) k j in
       let group = joined_from (tree h 10 t.page k) (j * fanout_of h) size in
       let long = joined_length (tree h 10 t.page k) (digest_length h) (j * fanout_of h) size (tree-length h 10 t.page k) in
-      blocks-by-label (suc k) (length group) ∙ ap (λ (b : Bool). blocks blake2b (length (cond b t.key [])) (length group)) inner
+      blocks_by_label (suc k) (length group) ∙ ap (λ (b : Bool). blocks blake2b (length (cond b t.key [])) (length group)) inner
       ∙ ap (blocks blake2b 0) (long ∙ ap (λ (p : Parts). group_size (shaped p.fanout 10) k j * p.digest) t.says)
 
   -- the blocks of all nodes
   pub all_blocks_lem : all_blocks t ≡ over_nodes (shaped said.fanout 10) (blocks_at said)
   unfolding layer_size
   all_blocks_lem =
-      nodes_same (shape_of h 10) _ _ (λ k j v. node-blocks k j (λ e. subst (λ x. j < layer_size (shape_of h 10) x) e v.left))
+      nodes_same (shape_of h 10) _ _ (λ k j v. node_blocks_lem k j (λ e. subst (λ x. j < layer_size (shape_of h 10) x) e v.left))
       ∙ ap (λ (p : Parts). over_nodes (shaped p.fanout 10) (blocks_at said)) t.says
 
   -- the blocks of some nodes
-  pub some-blocks : (nodes : List (ℕ × ℕ)) → below_ten nodes ≡ true → blocks_of_nodes t nodes ≡ map (λ (node : ℕ × ℕ). blocks_at said node.0 node.1) nodes
+  pub some_blocks : (nodes : List (ℕ × ℕ)) → below_ten nodes ≡ true → blocks_of_nodes t nodes ≡ map (λ (node : ℕ × ℕ). blocks_at said node.0 node.1) nodes
   unfolding below_ten
-  some-blocks [] e = refl
-  some-blocks (node ∷ nodes) e =
+  some_blocks [] e = refl
+  some_blocks (node ∷ nodes) e =
       let both = and_parts (ltb node.1 10) (below_ten nodes) e in
-      ap₂ ◌∷◌ (node-blocks node.0 node.1 (λ z. ltb-true node.1 10 both.0)) (some-blocks nodes both.1)
+      ap₂ ◌∷◌ (node_blocks_lem node.0 node.1 (λ z. ltb-true node.1 10 both.0)) (some_blocks nodes both.1)

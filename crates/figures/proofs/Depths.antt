@@ -14,13 +14,13 @@ pub one_group : (f : ℕ) → 2 ≤ f → (1 + (f - 1)) / f ≡ 1
 one_group f h = let e : 1 + (f - 1) ≡ f = omega arith in let pos : 0 < f = omega arith in rw e (div_self pos)
 
 module _ (m : Making) (five : FivePages m) where
-  four-layers : layer_count (shape_in m) ≡ 4
+  four_layers : layer_count (shape_in m) ≡ 4
   unfolding layer_size layer_count root_layer first or_else
-  four-layers = ap₂ (λ f n. layer_count (shaped f n)) five.fanout five.pages
+  four_layers = ap₂ (λ f n. layer_count (shaped f n)) five.fanout five.pages
 
-  pub too-deep : (depth : ℕ) → depth_limit m.hash ≡ depth → ltb (depth_limit m.hash) (layer_count (shape_in m)) ≡ ltb depth 4
-  too-deep depth e = ap₂ ltb e four-layers
+  pub too_deep : (depth : ℕ) → depth_limit m.hash ≡ depth → ltb (depth_limit m.hash) (layer_count (shape_in m)) ≡ ltb depth 4
+  too_deep depth e = ap₂ ltb e four_layers
 
   -- the rows before that of the depth
-  pub three-rows : Passed (take 3 (check_rows m))
-  three-rows = (ap not five.fit, (ap (λ n. eqb n 0) five.pages, (ap not (eq-eqb _ _ five.page), tt)))
+  pub three_rows : Passed (take 3 (check_rows m))
+  three_rows = (ap not five.fit, (ap (λ n. eqb n 0) five.pages, (ap not (eq-eqb _ _ five.page), tt)))

@@ -28,9 +28,9 @@ module _ (m : Pages) (sound : WellFormed m) (e : Extent) (page n : ℕ) (large :
       ∙ ap (λ len. unless (read_rows (count m) len readable page n) tt) (length_in_lem m sound page)
       ∙ ap (λ x. unless (read_rows (count m) (length_at m page) x page n) tt) r
 
-  pub write-by : (readable locked : Bool) → readable ≡ (page_at m page).state.readable → locked ≡ (page_at m page).state.locked
+  pub write_by : (readable locked : Bool) → readable ≡ (page_at m page).state.readable → locked ≡ (page_at m page).state.locked
       → unless (write_rows e.count (length_in e page) (record { readable = readable; locked = locked }) page n) tt ≡ write_answer m page n
-  write-by readable locked r l =
+  write_by readable locked r l =
       ap (λ (x : Extent). unless (write_rows x.count (length_in x page) (record { readable = readable; locked = locked }) page n) tt) large
       ∙ ap (λ len. unless (write_rows (count m) len (record { readable = readable; locked = locked }) page n) tt) (length_in_lem m sound page)
       ∙ ap (λ x. unless (write_rows (count m) (length_at m page) (record { readable = x; locked = locked }) page n) tt) r

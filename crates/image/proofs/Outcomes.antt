@@ -27,5 +27,5 @@ module _ (m : Pages) (page : ℕ) (bytes : List ℕ) where
   pub write_done : is_ok (write_answer m page (length bytes)) ≡ true → written m page bytes ≡ with_page m page bytes
   write_done = cond-true _ _ _
 
-  pub write-refused : is_ok (write_answer m page (length bytes)) ≡ false → written m page bytes ≡ m
-  write-refused = cond-false _ _ _
+  pub write_refused : is_ok (write_answer m page (length bytes)) ≡ false → written m page bytes ≡ m
+  write_refused = cond-false _ _ _

@@ -15,9 +15,9 @@ cut_at (c ∷ s) zero lt b e = rw (eq-eqb c 10 e)
 cut_at (c ∷ s) (suc n) lt b e =
     rw (ne_eqb c 10 (b 0 (omega arith)), cut_at s n (omega arith) (λ k l. b (suc k) (omega arith)) e)
 
-pub cut-none : (s : List ℕ) → ((k : ℕ) → k < length s → get_or s k 0 ≡ 10 → ⊥) → cut s ≡ None
-cut-none [] b = refl
-cut-none (c ∷ s) b = rw (ne_eqb c 10 (b 0 (omega arith)), cut-none s (λ k l. b (suc k) (omega arith)))
+pub cut_none : (s : List ℕ) → ((k : ℕ) → k < length s → get_or s k 0 ≡ 10 → ⊥) → cut s ≡ None
+cut_none [] b = refl
+cut_none (c ∷ s) b = rw (ne_eqb c 10 (b 0 (omega arith)), cut_none s (λ k l. b (suc k) (omega arith)))
 
 after_some : (name s : List ℕ) → after name (name ++ s) ≡ Some s
 after_some [] s = refl
@@ -36,9 +36,9 @@ pub valued_cut : (n : ℕ) (name s t : List ℕ) → s ≡ name ++ t → valued 
 unfolding valued
 valued_cut n name s t e = ap (λ x. formed n (cut_after (after name x))) e ∙ ap (λ x. formed n (cut_after x)) (after_some name t)
 
-pub valued-none : (n : ℕ) (name s : List ℕ) → ((rest : List ℕ) → s ≡ name ++ rest → ⊥) → valued n name s ≡ Err (fault LineForm n)
+pub valued_none : (n : ℕ) (name s : List ℕ) → ((rest : List ℕ) → s ≡ name ++ rest → ⊥) → valued n name s ≡ Err (fault LineForm n)
 unfolding valued
-valued-none n name s never = ap (λ x. formed n (cut_after x)) (after_none name s never)
+valued_none n name s never = ap (λ x. formed n (cut_after x)) (after_none name s never)
 
 -- from an accepted answer back to what was read
 

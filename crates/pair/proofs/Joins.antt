@@ -52,75 +52,75 @@ recounted_ok by (Ok u) = refl
 recounted_ok by (Err f) = refl
 
 module _ (a b : Pages) (ok : is_ok (pair_answer a b) ≡ true) where
-  pub made-is : pair_made a b ≡ joined a b
-  made-is = cond-true (is_ok (pair_answer a b)) _ _ ok
+  pub made_is : pair_made a b ≡ joined a b
+  made_is = cond-true (is_ok (pair_answer a b)) _ _ ok
 
   pub made-count : count (pair_made a b) ≡ count a + count b
-  made-count = ap count made-is ∙ joined-count a b
+  made-count = ap count made_is ∙ joined-count a b
 
-  pub made-front : (k : ℕ) → k < count a → page_at (pair_made a b) k ≡ page_at a k
-  made-front k h = ap (λ m. page_at m k) made-is ∙ front_at a b k h
+  pub made_front : (k : ℕ) → k < count a → page_at (pair_made a b) k ≡ page_at a k
+  made_front k h = ap (λ m. page_at m k) made_is ∙ front_at a b k h
 
-  pub made-back : (k : ℕ) → count a ≤ k → page_at (pair_made a b) k ≡ page_at b (k - count a)
-  made-back k h = ap (λ m. page_at m k) made-is ∙ back_at a b k h
+  pub made_back : (k : ℕ) → count a ≤ k → page_at (pair_made a b) k ≡ page_at b (k - count a)
+  made_back k h = ap (λ m. page_at m k) made_is ∙ back_at a b k h
 
-  pub made-extent : record { size = a.size; count = count a + count b; last = (extent_of b).last } ≡ extent_of (pair_made a b)
-  made-extent =
+  pub made_extent : record { size = a.size; count = count a + count b; last = (extent_of b).last } ≡ extent_of (pair_made a b)
+  made_extent =
       let fit = accepted a b ok in
       let here : count a + count b - 1 - count a ≡ count b - 1 = omega (arith, fit.more) in
       let last : length_at b (count b - 1) ≡ length_at (pair_made a b) (count a + count b - 1) =
-      ap (length_at b) (sym here) ∙ sym (ap (λ (p : Page). length p.bytes) (made-back (count a + count b - 1) (omega (arith, fit.more)))) in
+      ap (length_at b) (sym here) ∙ sym (ap (λ (p : Page). length p.bytes) (made_back (count a + count b - 1) (omega (arith, fit.more)))) in
       ap (λ l. record { size = a.size; count = count a + count b; last = l }) last
       ∙ ap (λ n. record { size = a.size; count = n; last = length_at (pair_made a b) (n - 1) }) (sym made-count)
-      ∙ ap (λ (m : Pages). record { size = m.size; count = count (pair_made a b); last = length_at (pair_made a b) (count (pair_made a b) - 1) }) (sym made-is)
+      ∙ ap (λ (m : Pages). record { size = m.size; count = count (pair_made a b); last = length_at (pair_made a b) (count (pair_made a b) - 1) }) (sym made_is)
 
-  gone-front : (k : ℕ) → k < count a → leb (count (pair_made a b)) k ≡ leb (count a) k
-  gone-front k h = lt-leb (count (pair_made a b)) k (omega (arith, made-count)) ∙ sym (lt-leb (count a) k h)
+  gone_front : (k : ℕ) → k < count a → leb (count (pair_made a b)) k ≡ leb (count a) k
+  gone_front k h = lt-leb (count (pair_made a b)) k (omega (arith, made-count)) ∙ sym (lt-leb (count a) k h)
 
-  gone-back : (k : ℕ) → count a ≤ k → leb (count (pair_made a b)) k ≡ leb (count b) (k - count a)
-  gone-back k h = ⊎_elim
+  gone_back : (k : ℕ) → count a ≤ k → leb (count (pair_made a b)) k ≡ leb (count b) (k - count a)
+  gone_back k h = ⊎_elim
       (λ l. lt-leb (count (pair_made a b)) k (omega (arith, made-count)) ∙ sym (lt-leb (count b) (k - count a) l))
       (λ l. le-leb (count (pair_made a b)) k (omega (arith, made-count)) ∙ sym (le-leb (count b) (k - count a) l))
       (cases_lt (k - count a) (count b))
 
-  pub read-front : (k n : ℕ) → k < count a → read_answer (pair_made a b) k n ≡ read_answer a k n
-  read-front k n h =
-      ap (λ t. read_by t (not (eqb n (length_at (pair_made a b) k))) (page_at (pair_made a b) k).state.readable k) (gone-front k h)
-      ∙ ap (λ (p : Page). read_by (leb (count a) k) (not (eqb n (length p.bytes))) p.state.readable k) (made-front k h)
+  pub read_front : (k n : ℕ) → k < count a → read_answer (pair_made a b) k n ≡ read_answer a k n
+  read_front k n h =
+      ap (λ t. read_by t (not (eqb n (length_at (pair_made a b) k))) (page_at (pair_made a b) k).state.readable k) (gone_front k h)
+      ∙ ap (λ (p : Page). read_by (leb (count a) k) (not (eqb n (length p.bytes))) p.state.readable k) (made_front k h)
 
   pub read_back : (k n : ℕ) → count a ≤ k → read_answer (pair_made a b) k n ≡ recounted (count a) (read_answer b (k - count a) n)
   read_back k n h =
       let e : k - count a + count a ≡ k = omega arith in
       let q = page_at b (k - count a) in
       let gone = leb (count b) (k - count a) in
-      ap (λ t. read_by t (not (eqb n (length_at (pair_made a b) k))) (page_at (pair_made a b) k).state.readable k) (gone-back k h)
-      ∙ ap (λ (p : Page). read_by gone (not (eqb n (length p.bytes))) p.state.readable k) (made-back k h)
+      ap (λ t. read_by t (not (eqb n (length_at (pair_made a b) k))) (page_at (pair_made a b) k).state.readable k) (gone_back k h)
+      ∙ ap (λ (p : Page). read_by gone (not (eqb n (length p.bytes))) p.state.readable k) (made_back k h)
       ∙ ap (read_by gone (not (eqb n (length q.bytes))) q.state.readable) (sym e)
       ∙ sym (read_recounted gone (not (eqb n (length q.bytes))) q.state.readable (k - count a) (count a))
 
-  pub out-front : (k : ℕ) (out : List ℕ) → k < count a → read_out (pair_made a b) k out ≡ read_out a k out
-  out-front k out h =
-      ap (λ r. cond (is_ok r) (page_at (pair_made a b) k).bytes out) (read-front k (length out) h)
-      ∙ ap (λ (p : Page). cond (is_ok (read_answer a k (length out))) p.bytes out) (made-front k h)
+  pub out_front : (k : ℕ) (out : List ℕ) → k < count a → read_out (pair_made a b) k out ≡ read_out a k out
+  out_front k out h =
+      ap (λ r. cond (is_ok r) (page_at (pair_made a b) k).bytes out) (read_front k (length out) h)
+      ∙ ap (λ (p : Page). cond (is_ok (read_answer a k (length out))) p.bytes out) (made_front k h)
 
-  pub out-back : (k : ℕ) (out : List ℕ) → count a ≤ k → read_out (pair_made a b) k out ≡ read_out b (k - count a) out
-  out-back k out h =
+  pub out_back : (k : ℕ) (out : List ℕ) → count a ≤ k → read_out (pair_made a b) k out ≡ read_out b (k - count a) out
+  out_back k out h =
       ap (λ r. cond (is_ok r) (page_at (pair_made a b) k).bytes out) (read_back k (length out) h)
       ∙ ap (λ r. cond r (page_at (pair_made a b) k).bytes out) (recounted_ok (count a) (read_answer b (k - count a) (length out)))
-      ∙ ap (λ (p : Page). cond (is_ok (read_answer b (k - count a) (length out))) p.bytes out) (made-back k h)
+      ∙ ap (λ (p : Page). cond (is_ok (read_answer b (k - count a) (length out))) p.bytes out) (made_back k h)
 
-  pub write-front : (k n : ℕ) → k < count a → write_answer (pair_made a b) k n ≡ write_answer a k n
-  write-front k n h =
-      ap (λ t. write_by t (not (eqb n (length_at (pair_made a b) k))) (page_at (pair_made a b) k).state k) (gone-front k h)
-      ∙ ap (λ (p : Page). write_by (leb (count a) k) (not (eqb n (length p.bytes))) p.state k) (made-front k h)
+  pub write_front : (k n : ℕ) → k < count a → write_answer (pair_made a b) k n ≡ write_answer a k n
+  write_front k n h =
+      ap (λ t. write_by t (not (eqb n (length_at (pair_made a b) k))) (page_at (pair_made a b) k).state k) (gone_front k h)
+      ∙ ap (λ (p : Page). write_by (leb (count a) k) (not (eqb n (length p.bytes))) p.state k) (made_front k h)
 
-  pub write-back : (k n : ℕ) → count a ≤ k → write_answer (pair_made a b) k n ≡ recounted (count a) (write_answer b (k - count a) n)
-  write-back k n h =
+  pub write_back : (k n : ℕ) → count a ≤ k → write_answer (pair_made a b) k n ≡ recounted (count a) (write_answer b (k - count a) n)
+  write_back k n h =
       let e : k - count a + count a ≡ k = omega arith in
       let q = page_at b (k - count a) in
       let gone = leb (count b) (k - count a) in
-      ap (λ t. write_by t (not (eqb n (length_at (pair_made a b) k))) (page_at (pair_made a b) k).state k) (gone-back k h)
-      ∙ ap (λ (p : Page). write_by gone (not (eqb n (length p.bytes))) p.state k) (made-back k h)
+      ap (λ t. write_by t (not (eqb n (length_at (pair_made a b) k))) (page_at (pair_made a b) k).state k) (gone_back k h)
+      ∙ ap (λ (p : Page). write_by gone (not (eqb n (length p.bytes))) p.state k) (made_back k h)
       ∙ ap (write_by gone (not (eqb n (length q.bytes))) q.state) (sym e)
       ∙ sym (write_recounted gone (not (eqb n (length q.bytes))) q.state.readable q.state.locked (k - count a) (count a))
 
@@ -131,7 +131,7 @@ extent_joined a b x y ex ey good =
     let fine : parts_bad (extent_of a) (extent_of b) ≡ false = ap (λ e. parts_bad e (extent_of b)) (sym ex) ∙ ap (parts_bad x) (sym ey) ∙ good in
     ap (λ (e : Extent). record { size = e.size; count = e.count + y.count; last = y.last }) ex
     ∙ ap (λ (e : Extent). record { size = a.size; count = count a + e.count; last = e.last }) ey
-    ∙ made-extent a b (ap (λ bad. is_ok (unless {A = Unit {0}} (on bad PairParts 0 ∷ []) tt)) fine)
+    ∙ made_extent a b (ap (λ bad. is_ok (unless {A = Unit {0}} (on bad PairParts 0 ∷ []) tt)) fine)
 
 -- and `front` is what the first part's count was asked as
 module _ (a b : Pages) (ok : is_ok (pair_answer a b) ≡ true) (k front : ℕ) (f : front ≡ count a) (h : front ≤ k) where
@@ -139,15 +139,15 @@ module _ (a b : Pages) (ok : is_ok (pair_answer a b) ≡ true) (k front : ℕ) (
   read_fits n limit l r e = subst (λ x. IfErr x (λ y. y.place + front < limit)) (sym e)
       (read_place (leb (count b) (k - front)) (not (eqb n (length_at b (k - front)))) (page_at b (k - front)).state.readable (k - front) front limit (omega arith))
 
-  pub write-fits : (n limit : ℕ) → k < limit → (r : Answer) → r ≡ write_answer b (k - front) n → IfErr r (λ x. x.place + front < limit)
-  write-fits n limit l r e = subst (λ x. IfErr x (λ y. y.place + front < limit)) (sym e)
+  pub write_fits : (n limit : ℕ) → k < limit → (r : Answer) → r ≡ write_answer b (k - front) n → IfErr r (λ x. x.place + front < limit)
+  write_fits n limit l r e = subst (λ x. IfErr x (λ y. y.place + front < limit)) (sym e)
       (write_place (leb (count b) (k - front)) (not (eqb n (length_at b (k - front)))) (page_at b (k - front)).state.readable (page_at b (k - front)).state.locked (k - front) front limit (omega arith))
 
-  pub second-read : (n : ℕ) (r : Answer) → r ≡ read_answer b (k - front) n → recounted front r ≡ read_answer (pair_made a b) k n
-  second-read n r e = ap (recounted front) e ∙ ap (λ x. recounted x (read_answer b (k - x) n)) f ∙ sym (read_back a b ok k n (omega arith))
+  pub second_read : (n : ℕ) (r : Answer) → r ≡ read_answer b (k - front) n → recounted front r ≡ read_answer (pair_made a b) k n
+  second_read n r e = ap (recounted front) e ∙ ap (λ x. recounted x (read_answer b (k - x) n)) f ∙ sym (read_back a b ok k n (omega arith))
 
-  pub second-out : (out o : List ℕ) → o ≡ read_out b (k - front) out → o ≡ read_out (pair_made a b) k out
-  second-out out o e = e ∙ ap (λ x. read_out b (k - x) out) f ∙ sym (out-back a b ok k out (omega arith))
+  pub second_out : (out o : List ℕ) → o ≡ read_out b (k - front) out → o ≡ read_out (pair_made a b) k out
+  second_out out o e = e ∙ ap (λ x. read_out b (k - x) out) f ∙ sym (out_back a b ok k out (omega arith))
 
-  pub second-write : (n : ℕ) (r : Answer) → r ≡ write_answer b (k - front) n → recounted front r ≡ write_answer (pair_made a b) k n
-  second-write n r e = ap (recounted front) e ∙ ap (λ x. recounted x (write_answer b (k - x) n)) f ∙ sym (write-back a b ok k n (omega arith))
+  pub second_write : (n : ℕ) (r : Answer) → r ≡ write_answer b (k - front) n → recounted front r ≡ write_answer (pair_made a b) k n
+  second_write n r e = ap (recounted front) e ∙ ap (λ x. recounted x (write_answer b (k - x) n)) f ∙ sym (write_back a b ok k n (omega arith))

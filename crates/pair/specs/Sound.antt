@@ -44,14 +44,14 @@ module _ (a b : Pages) where
   pub back_at : (k : ℕ) → count a ≤ k → page_at (joined a b) k ≡ page_at b (k - count a)
   back_at k h = get_or-append_right a.pages b.pages (count a) k absent refl h
 
-  front-full : WellFormed a → Fit (extent_of a) (extent_of b) → (k : ℕ) → k < count a → length_at a k ≡ a.size
-  front-full s fit k h = ⊎_elim
+  front_full : WellFormed a → Fit (extent_of a) (extent_of b) → (k : ℕ) → k < count a → length_at a k ≡ a.size
+  front_full s fit k h = ⊎_elim
       (λ l. s.whole k l)
       (λ l. let e : k ≡ count a - 1 = omega arith in ap (length_at a) e ∙ fit.full)
       (cases_lt (k + 1) (count a))
 
-  joined-sound : WellFormed a → WellFormed b → Fit (extent_of a) (extent_of b) → WellFormed (joined a b)
-  joined-sound s t fit =
+  joined_sound : WellFormed a → WellFormed b → Fit (extent_of a) (extent_of b) → WellFormed (joined a b)
+  joined_sound s t fit =
       let c = joined-count in
       let bytes : Page → ℕ = λ p. length p.bytes in
       record {
@@ -59,7 +59,7 @@ module _ (a b : Pages) where
         low = s.low;
         high = s.high;
         whole = λ k h. ⊎_elim
-            (λ l. ap bytes (front_at k l) ∙ front-full s fit k l)
+            (λ l. ap bytes (front_at k l) ∙ front_full s fit k l)
             (λ l. ap bytes (back_at k l) ∙ t.whole (k - count a) (omega (arith, c)) ∙ sym fit.same)
             (cases_lt k (count a));
         some = λ k h. ⊎_elim
@@ -73,4 +73,4 @@ module _ (a b : Pages) where
       }
 
 pub pair_sound : (a b : Pages) → WellFormed a → WellFormed b → WellFormed (pair_made a b)
-pair_sound a b s t = made_sound (is_ok (pair_answer a b)) (joined a b) (λ e. joined-sound a b s t (accepted a b e))
+pair_sound a b s t = made_sound (is_ok (pair_answer a b)) (joined a b) (λ e. joined_sound a b s t (accepted a b e))

@@ -7,11 +7,11 @@ use Rattle.stream.specs.Streams.{digest_answer, digest_out}
 use Rattle.puligastru.specs.Numbers.{variant_of, status_of}
 
 module _ (variant : Variant) (number : ℕ) (is : variant ≡ variant_of number) (d : ℕ) (key input out : List ℕ) where
-  pub status-by : (status : ℕ) (answer : Result ℕ Fault) → status ≡ status_of answer
+  pub status_by : (status : ℕ) (answer : Result ℕ Fault) → status ≡ status_of answer
       → answer ≡ digest_answer (width_of variant) d (length key) (length input) (length out)
       → status ≡ status_of (digest_answer (width_of (variant_of number)) d (length key) (length input) (length out))
-  status-by status answer s a =
+  status_by status answer s a =
       s ∙ ap status_of a ∙ ap (λ v. status_of (digest_answer (width_of v) d (length key) (length input) (length out))) is
 
-  pub out-by : (after : List ℕ) → after ≡ digest_out (width_of variant) d key input out → after ≡ digest_out (width_of (variant_of number)) d key input out
-  out-by after o = o ∙ ap (λ v. digest_out (width_of v) d key input out) is
+  pub out_by : (after : List ℕ) → after ≡ digest_out (width_of variant) d key input out → after ≡ digest_out (width_of (variant_of number)) d key input out
+  out_by after o = o ∙ ap (λ v. digest_out (width_of v) d key input out) is

@@ -6,7 +6,7 @@ use Rattle.blake2.specs.Bytes.{words_of, pad}
 use Rattle.blake2.specs.Compression.{compress}
 use Rattle.blake2.specs.Width.{Width, block_size}
 use Rattle.stream.specs.Hash.{chain, ended}
-use Rattle.stream.proofs.Closing.{whole-blocks}
+use Rattle.stream.proofs.Closing.{whole_blocks}
 
 -- one turn of the block loop: i of n blocks are done
 pub chain_more : (w : Width) (last node : Bool) (n i t : ℕ) (bs h : List ℕ) → i < n
@@ -105,7 +105,7 @@ pub absorbed : (w : Width) (node : Bool) (t first filled : ℕ) (wait bytes rest
     → filled ≡ 0 → first ≡ t + block_size w → 0 < length rest → h' ≡ chain w false false (length bytes / block_size w) first bytes h
     → ended w node (t + length bytes) (take filled wait ++ rest) h' ≡ ended w node t (take filled wait ++ (bytes ++ rest)) h
 absorbed w node t first filled wait bytes rest h h' some even long none counter more e =
-    rw (none, e, counter) (ended-chain w node (length bytes / block_size w) t bytes rest h some (whole-blocks w (length bytes) even long) more)
+    rw (none, e, counter) (ended-chain w node (length bytes / block_size w) t bytes rest h some (whole_blocks w (length bytes) even long) more)
 
 -- the waiting bytes, once all 128 are there
 pub flushed : (w : Width) (node : Bool) (t first filled : ℕ) (wait rest h h' : List ℕ) → 0 < w.size → 8 % w.size ≡ 0 → length wait ≡ 128

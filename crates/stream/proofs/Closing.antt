@@ -10,8 +10,8 @@ use Rattle.blake2.specs.Width.{Width, block_size}
 use Rattle.stream.specs.Hash.{chain, before, ended}
 
 -- a number of bytes that 128 divides is a number of blocks
-pub whole-blocks : (w : Width) (n : ℕ) → 8 % w.size ≡ 0 → n % 128 ≡ 0 → n ≡ n / block_size w * block_size w
-whole-blocks w n even long =
+pub whole_blocks : (w : Width) (n : ℕ) → 8 % w.size ≡ 0 → n % 128 ≡ 0 → n ≡ n / block_size w * block_size w
+whole_blocks w n even long =
     sym (div-mul_cancel (block_size w)
     (dvd_trans (block_size w) {b = 128} (mul-dvd-mul_left w.size {c = 8} 16 (dvd_of_mod-eq-zero w.size even)) (dvd_of_mod-eq-zero 128 long)))
 
@@ -20,7 +20,7 @@ pub last_within : (w : Width) (f : ℕ) → 0 < w.size → 8 % w.size ≡ 0 → 
 last_within w f some even few =
     let b = block_size w in
     let q = 128 / b in
-    let whole : 128 ≡ q * b = whole-blocks w 128 even refl in
+    let whole : 128 ≡ q * b = whole_blocks w 128 even refl in
     let less : before w f < q = div_below (f - 1) b q (omega arith) (omega arith) in
     let fits : b * (before w f + 1) ≤ b * q = mul-le-mul_left b (omega arith) in
     omega (arith, mul-add b (before w f) 1, mul-one b, mul_comm b q)

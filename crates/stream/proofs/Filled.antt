@@ -18,5 +18,5 @@ module _ {X : Type 0} (value : X → ℕ) (F : ℕ → ℕ) (n : ℕ) (xs : List
             ∙ fill_by_more F (map value xs) i 0 (omega arith) inv.1 k l,
       )
 
-  pub filled-all : i ≡ n → Filled value F n xs i → map value xs ≡ map F (range_with_len 0 n)
-  filled-all e inv = fill_by_all F (map value xs) n 0 (length-map xs value ∙ inv.0) (λ k l. inv.1 k (omega arith))
+  pub filled_all : i ≡ n → Filled value F n xs i → map value xs ≡ map F (range_with_len 0 n)
+  filled_all e inv = fill_by_all F (map value xs) n 0 (length-map xs value ∙ inv.0) (λ k l. inv.1 k (omega arith))

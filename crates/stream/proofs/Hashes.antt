@@ -26,22 +26,22 @@ begin_accepts w d k some short small =
     rw (zero, le-ltb (longest w) d short, le-ltb (longest w) k small)
 
 module _ (w : Width) (k n m : ℕ) where
-  pub begin-refuses : (e : Fault) → begin_answer w m k ≡ Err e → hash_answer w k n m ≡ Err e
-  begin-refuses e no-begin = rows_stop (begin_rows w m k) (add_rows 0 n) (blocks w k n) e no-begin
+  pub begin_refuses : (e : Fault) → begin_answer w m k ≡ Err e → hash_answer w k n m ≡ Err e
+  begin_refuses e no-begin = rows_stop (begin_rows w m k) (add_rows 0 n) (blocks w k n) e no-begin
 
   by_length : (late : Bool) → begin_answer w m k ≡ Ok tt → ltb (2 ^ 40) (0 + n) ≡ late → hash_answer w k n m ≡ cond late (Err (fault StreamLength 0)) (Ok (blocks w k n))
   by_length late ok e =
       rows_pass (begin_rows w m k) (add_rows 0 n) (blocks w k n) ok ∙ ap (λ (b : Bool). cond b (Err (fault StreamLength 0)) (Ok (blocks w k n))) e
 
-  pub length-refuses : begin_answer w m k ≡ Ok tt → 2 ^ 40 < n → hash_answer w k n m ≡ Err (fault StreamLength 0)
-  length-refuses ok long = by_length true ok (lt-ltb (2 ^ 40) (0 + n) (omega arith))
+  pub length_refuses : begin_answer w m k ≡ Ok tt → 2 ^ 40 < n → hash_answer w k n m ≡ Err (fault StreamLength 0)
+  length_refuses ok long = by_length true ok (lt-ltb (2 ^ 40) (0 + n) (omega arith))
 
   pub hash-accepted : begin_answer w m k ≡ Ok tt → n ≤ 2 ^ 40 → hash_answer w k n m ≡ Ok (blocks w k n)
   hash-accepted ok short = by_length false ok (le-ltb (2 ^ 40) (0 + n) (omega arith))
 
 module _ (w : Width) (node : Bool) (p key input out : List ℕ) where
-  pub hash-kept : (e : Fault) → hash_answer w (length key) (length input) (length out) ≡ Err e → out ≡ hash_out w node p key input out
-  hash-kept e refused = sym (ap (λ (answer : Result ℕ Fault). cond (is_ok answer) (hash w (length out) node p key input) out) refused)
+  pub hash_kept : (e : Fault) → hash_answer w (length key) (length input) (length out) ≡ Err e → out ≡ hash_out w node p key input out
+  hash_kept e refused = sym (ap (λ (answer : Result ℕ Fault). cond (is_ok answer) (hash w (length out) node p key input) out) refused)
 
   pub hash-written : (n : ℕ) → hash_answer w (length key) (length input) (length out) ≡ Ok n → hash_out w node p key input out ≡ hash w (length out) node p key input
   hash-written n accepted = ap (λ (answer : Result ℕ Fault). cond (is_ok answer) (hash w (length out) node p key input) out) accepted

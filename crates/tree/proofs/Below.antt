@@ -8,10 +8,10 @@ pub by_last : {A : Type 0} → (i n : ℕ) → i < suc n → (i < n → A) → (
 by_last i n h low high = elim (ℕ_discrete i n) [ yes e ↦ high e | no ne ↦ low (omega arith) ]
 
 -- where none was found, none passes
-pub first-none : (p : ℕ → Bool) (n : ℕ) → first p n ≡ None → (i : ℕ) → i < n → p i ≡ false
+pub first_none : (p : ℕ → Bool) (n : ℕ) → first p n ≡ None → (i : ℕ) → i < n → p i ≡ false
 unfolding first or_else
-first-none p zero e i h = absurd (omega arith)
-first-none p (suc n) e i h = go (first-none p n) (first p n) refl (p n) refl e
+first_none p zero e i h = absurd (omega arith)
+first_none p (suc n) e i h = go (first_none p n) (first p n) refl (p n) refl e
   where
     go : ((first p n ≡ None) → (i : ℕ) → i < n → p i ≡ false) → (o : Option ℕ) → first p n ≡ o → (b : Bool) → p n ≡ b → or_else o (cond b (Some n) None) ≡ None → p i ≡ false
     go ih (Some x) e₁ b e₂ e₃ = cc
@@ -35,7 +35,7 @@ first_some p (suc n) j e = go (first_some p n) (first p n) refl (p n) refl e
         record { below = omega (arith, r.below); passes = r.passes; least = r.least }
     go ih None e₁ true e₂ e₃ =
         let q : n ≡ j = cc in
-        record { below = omega arith; passes = rw (← q) e₂; least = λ i h. first-none p n e₁ i (omega arith) }
+        record { below = omega arith; passes = rw (← q) e₂; least = λ i h. first_none p n e₁ i (omega arith) }
     go ih None e₁ false e₂ e₃ = absurd (let z : ◌≡◌ {A = ℕ} 0 1 = cc in omega arith)
 
 pub total_same : (f g : ℕ → ℕ) (n : ℕ) → ((i : ℕ) → i < n → f i ≡ g i) → total f n ≡ total g n
@@ -52,15 +52,15 @@ total_one f g (suc n) j d l e h =
     (λ low. let a = total_one f g n j d low e (λ i m ne. h i (omega arith) ne) in let b = h n (omega arith) (omega arith) in omega arith)
     (λ q. let a = total_same f g n (λ i m. h i (omega arith) (omega arith)) in let b : f n ≡ d + g n = rw (← q) e in omega arith)
 
-pub total-zero : (f : ℕ → ℕ) (n : ℕ) → total f n ≡ 0 → (i : ℕ) → i < n → f i ≡ 0
+pub total_zero : (f : ℕ → ℕ) (n : ℕ) → total f n ≡ 0 → (i : ℕ) → i < n → f i ≡ 0
 unfolding total
-total-zero f zero e i l = absurd (omega arith)
-total-zero f (suc n) e i l = by_last i n l (λ low. total-zero f n (omega arith) i low) (λ q. rw q (omega arith))
+total_zero f zero e i l = absurd (omega arith)
+total_zero f (suc n) e i l = by_last i n l (λ low. total_zero f n (omega arith) i low) (λ q. rw q (omega arith))
 
-pub total-none : (f : ℕ → ℕ) (n : ℕ) → ((i : ℕ) → i < n → f i ≡ 0) → total f n ≡ 0
+pub total_none : (f : ℕ → ℕ) (n : ℕ) → ((i : ℕ) → i < n → f i ≡ 0) → total f n ≡ 0
 unfolding total
-total-none f zero h = refl
-total-none f (suc n) h = let a = total-none f n (λ i l. h i (omega arith)) in let b = h n (omega arith) in omega arith
+total_none f zero h = refl
+total_none f (suc n) h = let a = total_none f n (λ i l. h i (omega arith)) in let b = h n (omega arith) in omega arith
 
 -- what is summed before a later number has this number's part in it
 pub total_grows : (f : ℕ → ℕ) (k n : ℕ) → k < n → total f k + f k ≤ total f n

@@ -7,9 +7,9 @@ use Rattle.tree.specs.Marks.{marks, mark_path}
 use Rattle.tree.specs.Runs.{Making, Accepted, shape_in, view_after, state_after, Event, did, events, put_in}
 use Rattle.tree.specs.Shapes.{layer_count}
 use Rattle.tree.specs.Views.{State}
-use Rattle.tree.proofs.Invariant.{seal, Inv, inv-run, put-there}
-use Rattle.tree.proofs.Marks.{next-some, marks-path}
-use Rattle.tree.proofs.Rows.{by_rows, answer-from-ok}
+use Rattle.tree.proofs.Invariant.{seal, Inv, inv_run, put_there}
+use Rattle.tree.proofs.Marks.{next_some, marks-path}
+use Rattle.tree.proofs.Rows.{by_rows, answer_from_ok}
 use Rattle.tree.proofs.Steps.{step-weighed}
 
 module _ (m : Making) (s : State) (es : List Event) (i : Inv m s es) where
@@ -24,7 +24,7 @@ module _ (m : Making) (s : State) (es : List Event) (i : Inv m s es) where
 
   step-marks : (o : Option (ℕ × ℕ)) → next_node (seal m s) ≡ o → marks (shape_in m) (step_table (seal m s) o) ≤ marks (shape_in m) s.table
   unfolding step_table marks
-  step-marks (Some v) e = let a = step-weighed m s es i v.0 v.1 (next-some (shape_in m) s.table v e) (λ k j. 1) in omega arith
+  step-marks (Some v) e = let a = step-weighed m s es i v.0 v.1 (next_some (shape_in m) s.table v e) (λ k j. 1) in omega arith
   step-marks None e = omega arith
 
   -- the marks that a call adds at most
@@ -40,35 +40,35 @@ module _ (m : Making) (s : State) (es : List Event) (i : Inv m s es) where
       (put_rows (seal m s) p (length bytes)) tt
       (λ e. omega arith)
       (λ h.
-      let there = put-there m s es p (length bytes) i h in
+      let there = put_there m s es p (length bytes) i h in
       let a = marks-path (shape_in m) m.hash.wide p there s.table i.long (layer_count (shape_in m)) (omega arith) in
       omega arith)
     where
       put-new : State
       put-new = record { pages = set s.pages p bytes; opened = None; table = mark_path (shape_in m) p (layer_count (shape_in m)) s.table }
 
-  call-marks : (c : Call) → marks (shape_in m) (state_of (seal m s) c).table ≤ added c + marks (shape_in m) s.table
+  call_marks : (c : Call) → marks (shape_in m) (state_of (seal m s) c).table ≤ added c + marks (shape_in m) s.table
   unfolding state_of open_state withdraw_state step_state
-  call-marks (Open p out) = either_way _ _ _ as_many
-  call-marks (Put p bytes) = put-marks p bytes
-  call-marks (Withdraw p) = either_way _ _ _ as_many
-  call-marks (Step work) = either_way _ _ _ (step-marks _ refl)
-  call-marks (Root out) = omega arith
-  call-marks Stale = omega arith
+  call_marks (Open p out) = either_way _ _ _ as_many
+  call_marks (Put p bytes) = put-marks p bytes
+  call_marks (Withdraw p) = either_way _ _ _ as_many
+  call_marks (Step work) = either_way _ _ _ (step-marks _ refl)
+  call_marks (Root out) = omega arith
+  call_marks Stale = omega arith
 
 module _ (m : Making) (acc : Accepted m) (calls : List Call) where
-  puts-mark : (more : List Call) → marks_left m (more ++ calls) ≤ put_count m calls more * layer_count (shape_in m) + marks_left m calls
+  puts_mark : (more : List Call) → marks_left m (more ++ calls) ≤ put_count m calls more * layer_count (shape_in m) + marks_left m calls
   unfolding put_count state_after
-  puts-mark [] = omega arith
-  puts-mark (c ∷ more) =
-      let a = puts-mark more in
-      let b = call-marks m (state_after m (more ++ calls)) (events m (more ++ calls)) (inv-run m acc (more ++ calls)) c in
+  puts_mark [] = omega arith
+  puts_mark (c ∷ more) =
+      let a = puts_mark more in
+      let b = call_marks m (state_after m (more ++ calls)) (events m (more ++ calls)) (inv_run m acc (more ++ calls)) c in
       rw add-mul (omega arith)
 
 pub estimate_suffices : (m : Making) → Accepted m → (calls more : List Call) → marks_left m calls ≡ 0 → Suffices m calls more
 unfolding estimate_answer
 estimate_suffices m acc calls more worked pages n e l =
-    let a = puts-mark m acc calls more in
+    let a = puts_mark m acc calls more in
     let b : put_count m calls more * layer_count (shape_in m) ≤ length pages * layer_count (shape_in m) = mul-le-mul_right (layer_count (shape_in m)) l in
-    let d : length pages * layer_count (shape_in m) ≡ n = answer-from-ok (estimate_rows (view_after m calls) pages) _ n e in
+    let d : length pages * layer_count (shape_in m) ≡ n = answer_from_ok (estimate_rows (view_after m calls) pages) _ n e in
     omega arith

@@ -10,18 +10,18 @@ use Rattle.tree.specs.Runs.{Making, Event, did, put_in, latest, page_after, put_
 
 -- An event that changes no page, no mark and no digest.
 pub record Quiet (e : Event) : Type 0 where
-  pub no-put : put_in e ≡ None
-  pub no-work : (k j : ℕ) → works k j e ≡ false
+  pub no_put : put_in e ≡ None
+  pub no_work : (k j : ℕ) → works k j e ≡ false
 
 -- a refused call is quiet
 pub refused_quiet : (c : Call) (x : Fault) → Quiet (did c (Refused x))
 unfolding put_in works
-refused_quiet (Open p out) x = record { no-put = refl; no-work = λ k j. refl }
-refused_quiet (Put p bytes) x = record { no-put = refl; no-work = λ k j. refl }
-refused_quiet (Withdraw p) x = record { no-put = refl; no-work = λ k j. refl }
-refused_quiet (Step work) x = record { no-put = refl; no-work = λ k j. refl }
-refused_quiet (Root out) x = record { no-put = refl; no-work = λ k j. refl }
-refused_quiet Stale x = record { no-put = refl; no-work = λ k j. refl }
+refused_quiet (Open p out) x = record { no_put = refl; no_work = λ k j. refl }
+refused_quiet (Put p bytes) x = record { no_put = refl; no_work = λ k j. refl }
+refused_quiet (Withdraw p) x = record { no_put = refl; no_work = λ k j. refl }
+refused_quiet (Step work) x = record { no_put = refl; no_work = λ k j. refl }
+refused_quiet (Root out) x = record { no_put = refl; no_work = λ k j. refl }
+refused_quiet Stale x = record { no_put = refl; no_work = λ k j. refl }
 
 -- so a call is quiet if it is where it is accepted
 pub told_quiet : {A : Type 0} (c : Call) (f : A → Answer) (r : Result A Fault) → ((x : A) → Quiet (did c (f x))) → Quiet (did c (told f r))
@@ -34,34 +34,34 @@ unfolding page_after latest
 pages_same m e es q = fun_ext (λ p. ap (λ o. latest p o (page_after m es p)) q)
 
 module _ (k j : ℕ) (e : Event) (es : List Event) where
-  pub last-same : works k j e ≡ false → last_worked k j (e ∷ es) ≡ last_worked k j es
+  pub last_same : works k j e ≡ false → last_worked k j (e ∷ es) ≡ last_worked k j es
   unfolding last_worked
-  last-same q = ap (λ b. cond b (Some es) (last_worked k j es)) q
+  last_same q = ap (λ b. cond b (Some es) (last_worked k j es)) q
 
-  since-same : works k j e ≡ false → since_worked k j (e ∷ es) ≡ e ∷ since_worked k j es
+  since_same : works k j e ≡ false → since_worked k j (e ∷ es) ≡ e ∷ since_worked k j es
   unfolding since_worked
-  since-same q = ap (λ b. cond b [] (e ∷ since_worked k j es)) q
+  since_same q = ap (λ b. cond b [] (e ∷ since_worked k j es)) q
 
-  pub last-now : works k j e ≡ true → last_worked k j (e ∷ es) ≡ Some es
+  pub last_now : works k j e ≡ true → last_worked k j (e ∷ es) ≡ Some es
   unfolding last_worked
-  last-now q = rw q
+  last_now q = rw q
 
   module _ (f : ℕ) where
-    stale-next : works k j e ≡ false
+    stale_next : works k j e ≡ false
         → is_stale f k j (e ∷ es) ≡ (not (is_some (last_worked k j es)) || (put_beneath f k j (put_in e) || any_put f k j (since_worked k j es)))
     unfolding is_stale any_put
-    stale-next q = ap₂ (λ a b. not (is_some a) || any_put f k j b) (last-same q) (since-same q)
+    stale_next q = ap₂ (λ a b. not (is_some a) || any_put f k j b) (last_same q) (since_same q)
 
     -- an event that neither works a node nor puts a page beneath it leaves it stale or not, as it was
-    pub stale-same : works k j e ≡ false → put_beneath f k j (put_in e) ≡ false → is_stale f k j (e ∷ es) ≡ is_stale f k j es
+    pub stale_same : works k j e ≡ false → put_beneath f k j (put_in e) ≡ false → is_stale f k j (e ∷ es) ≡ is_stale f k j es
     unfolding is_stale
-    stale-same q r = stale-next q ∙ ap (λ b. not (is_some (last_worked k j es)) || (b || any_put f k j (since_worked k j es))) r
+    stale_same q r = stale_next q ∙ ap (λ b. not (is_some (last_worked k j es)) || (b || any_put f k j (since_worked k j es))) r
 
     -- a put beneath a node makes it stale
-    pub stale-put : works k j e ≡ false → put_beneath f k j (put_in e) ≡ true → is_stale f k j (e ∷ es) ≡ true
-    stale-put q r = stale-next q ∙ rw r (or-true _)
+    pub stale_put : works k j e ≡ false → put_beneath f k j (put_in e) ≡ true → is_stale f k j (e ∷ es) ≡ true
+    stale_put q r = stale_next q ∙ rw r (or-true _)
 
     -- and work on it makes it not stale
-    pub stale-worked : works k j e ≡ true → is_stale f k j (e ∷ es) ≡ false
+    pub stale_worked : works k j e ≡ true → is_stale f k j (e ∷ es) ≡ false
     unfolding is_stale last_worked since_worked any_put
-    stale-worked q = rw q
+    stale_worked q = rw q

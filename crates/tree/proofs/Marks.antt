@@ -5,9 +5,9 @@ use Rattle.tree.specs.declared.shape.Shape.{Shape}
 use Rattle.tree.specs.Marks.{marked_at, held_at, marks, leftmost, lowest, in_layer, in_table, next, mark_path}
 use Rattle.tree.specs.Records.{marked, mark}
 use Rattle.tree.specs.Shapes.{layer_count, node_count, over_nodes, place, path, group_size, Node}
-use Rattle.tree.proofs.Below.{by_last, first-none, first_some}
+use Rattle.tree.proofs.Below.{by_last, first_none, first_some}
 use Rattle.tree.proofs.Records.{length-mark, marked-mark, marked-mark_other, mark_stays, held-mark}
-use Rattle.tree.proofs.Shapes.{place-below, place_other, path-node, group-node, nodes-zero, nodes-none, nodes-one}
+use Rattle.tree.proofs.Shapes.{place-below, place_other, path_node, group_node, nodes_zero, nodes_none, nodes_one}
 
 is_none : {A : Type 0} (o : Option A) → is_some o ≡ false → o ≡ None
 is_none (Some x) e = cc
@@ -24,64 +24,64 @@ module _ (s : Shape) where
   -- A node that can be worked: it is marked, and no node of its group is.
   pub record Ready (t : List ℕ) (k j : ℕ) : Type 0 where
     pub node : Node s k j
-    pub is-marked : marked_at s t k j ≡ true
+    pub is_marked : marked_at s t k j ≡ true
     pub bare : (k' i : ℕ) → k ≡ suc k' → i < group_size s k' j → marked_at s t k' (j * s.fanout + i) ≡ false
 
   -- A marked node below whose layer none is marked.
   record Lowest (t : List ℕ) (k j : ℕ) : Type 0 where
     node : Node s k j
-    is-marked : marked_at s t k j ≡ true
+    is_marked : marked_at s t k j ≡ true
     lower : (k' j' : ℕ) → k' < k → Node s k' j' → marked_at s t k' j' ≡ false
 
-  lowest-ready : (t : List ℕ) (k j : ℕ) → Lowest t k j → Ready t k j
-  lowest-ready t k j c = record {
+  lowest_ready : (t : List ℕ) (k j : ℕ) → Lowest t k j → Ready t k j
+  lowest_ready t k j c = record {
     node = c.node;
-    is-marked = c.is-marked;
-    bare = λ k' i e l. c.lower k' (j * s.fanout + i) (omega arith) (group-node s k k' j i c.node e l);
+    is_marked = c.is_marked;
+    bare = λ k' i e l. c.lower k' (j * s.fanout + i) (omega arith) (group_node s k k' j i c.node e l);
   }
 
   none_left : (t : List ℕ) → lowest s t ≡ None → (k j : ℕ) → Node s k j → marked_at s t k j ≡ false
   unfolding lowest leftmost
   none_left t e k j v =
-      first-none (marked_at s t k) _ (is_none _ (first-none (λ x. is_some (leftmost s t x)) _ e k v.low)) j v.left
+      first_none (marked_at s t k) _ (is_none _ (first_none (λ x. is_some (leftmost s t x)) _ e k v.low)) j v.left
 
-  leftmost-some : (t : List ℕ) (k : ℕ) → lowest s t ≡ Some k → is_some (leftmost s t k) ≡ true
+  leftmost_some : (t : List ℕ) (k : ℕ) → lowest s t ≡ Some k → is_some (leftmost s t k) ≡ true
   unfolding lowest
-  leftmost-some t k e = (first_some _ _ k e).passes
+  leftmost_some t k e = (first_some _ _ k e).passes
 
   -- where there is no next node, none is marked
-  pub next-none : (t : List ℕ) → next s t ≡ None → (k j : ℕ) → Node s k j → marked_at s t k j ≡ false
+  pub next_none : (t : List ℕ) → next s t ≡ None → (k j : ℕ) → Node s k j → marked_at s t k j ≡ false
   unfolding next in_table in_layer
-  next-none t e k j v = go (lowest s t) refl e
+  next_none t e k j v = go (lowest s t) refl e
     where
       inner : (x : ℕ) → lowest s t ≡ Some x → (o : Option ℕ) → leftmost s t x ≡ o → in_layer s x o ≡ None → marked_at s t k j ≡ false
       inner x e₁ (Some y) e₂ e₃ = cc
-      inner x e₁ None e₂ e₃ = absurd (true≢false (sym (leftmost-some t x e₁) ∙ ap is_some e₂))
+      inner x e₁ None e₂ e₃ = absurd (true≢false (sym (leftmost_some t x e₁) ∙ ap is_some e₂))
 
       go : (o : Option ℕ) → lowest s t ≡ o → in_table s t o ≡ None → marked_at s t k j ≡ false
       go (Some x) e₁ e₂ = inner x e₁ (leftmost s t x) refl e₂
       go None e₁ e₂ = none_left t e₁ k j v
 
-  lowest-at : (t : List ℕ) (x y : ℕ) → lowest s t ≡ Some x → leftmost s t x ≡ Some y → Lowest t x y
+  lowest_at : (t : List ℕ) (x y : ℕ) → lowest s t ≡ Some x → leftmost s t x ≡ Some y → Lowest t x y
   unfolding lowest leftmost
-  lowest-at t x y e₁ e₂ =
+  lowest_at t x y e₁ e₂ =
       let a = first_some _ _ x e₁ in
       let b = first_some _ _ y e₂ in
       record {
         node = record { low = a.below; left = b.below };
-        is-marked = b.passes;
-        lower = λ k' j' l v. first-none (marked_at s t k') _ (is_none _ (a.least k' l)) j' v.left;
+        is_marked = b.passes;
+        lower = λ k' j' l v. first_none (marked_at s t k') _ (is_none _ (a.least k' l)) j' v.left;
       }
 
   -- the next node can be worked
-  pub next-some : (t : List ℕ) (v : ℕ × ℕ) → next s t ≡ Some v → Ready t v.0 v.1
+  pub next_some : (t : List ℕ) (v : ℕ × ℕ) → next s t ≡ Some v → Ready t v.0 v.1
   unfolding next in_table in_layer
-  next-some t v e = lowest-ready t v.0 v.1 (go (lowest s t) refl e)
+  next_some t v e = lowest_ready t v.0 v.1 (go (lowest s t) refl e)
     where
       inner : (x : ℕ) → lowest s t ≡ Some x → (o : Option ℕ) → leftmost s t x ≡ o → in_layer s x o ≡ Some v → Lowest t v.0 v.1
       inner x e₁ (Some y) e₂ e₃ =
           let q : (x, y) ≡ v = cc in
-          subst (λ (u : ℕ × ℕ). Lowest t u.0 u.1) q (lowest-at t x y e₁ e₂)
+          subst (λ (u : ℕ × ℕ). Lowest t u.0 u.1) q (lowest_at t x y e₁ e₂)
       inner x e₁ None e₂ e₃ = absurd (let z : ◌≡◌ {A = ℕ} 0 1 = cc in omega arith)
 
       go : (o : Option ℕ) → lowest s t ≡ o → in_table s t o ≡ Some v → Lowest t v.0 v.1
@@ -103,27 +103,27 @@ module _ (s : Shape) where
 
   -- HOW MANY ARE MARKED
 
-  weight-zero : (b : Bool) → ◌≡◌ {A = ℕ} (cond b 1 0) 0 → b ≡ false
-  weight-zero true e = absurd (omega arith)
-  weight-zero false e = refl
+  weight_zero : (b : Bool) → ◌≡◌ {A = ℕ} (cond b 1 0) 0 → b ≡ false
+  weight_zero true e = absurd (omega arith)
+  weight_zero false e = refl
 
-  pub marks-zero : (t : List ℕ) → marks s t ≡ 0 → (k j : ℕ) → Node s k j → marked_at s t k j ≡ false
+  pub marks_zero : (t : List ℕ) → marks s t ≡ 0 → (k j : ℕ) → Node s k j → marked_at s t k j ≡ false
   unfolding marks
-  marks-zero t e k j v = weight-zero _ (nodes-zero s _ e k j v)
+  marks_zero t e k j v = weight_zero _ (nodes_zero s _ e k j v)
 
   -- the sum of w k j over the marked nodes
   abbrev pub weighed : (ℕ → ℕ → ℕ) → List ℕ → ℕ
   weighed w t = over_nodes s (λ k j. cond (marked_at s t k j) (w k j) 0)
 
-  pub weighed-none : (w : ℕ → ℕ → ℕ) (t : List ℕ) → ((k j : ℕ) → Node s k j → marked_at s t k j ≡ false) → weighed w t ≡ 0
-  weighed-none w t h = nodes-none s _ (λ k j v. rw (h k j v))
+  pub weighed_none : (w : ℕ → ℕ → ℕ) (t : List ℕ) → ((k j : ℕ) → Node s k j → marked_at s t k j ≡ false) → weighed w t ≡ 0
+  weighed_none w t h = nodes_none s _ (λ k j v. rw (h k j v))
 
   -- a node that loses its mark loses its weight
-  pub weighed-one : (w : ℕ → ℕ → ℕ) (t t' : List ℕ) (k₀ j₀ : ℕ) → Node s k₀ j₀ → marked_at s t k₀ j₀ ≡ true → marked_at s t' k₀ j₀ ≡ false
+  pub weighed_one : (w : ℕ → ℕ → ℕ) (t t' : List ℕ) (k₀ j₀ : ℕ) → Node s k₀ j₀ → marked_at s t k₀ j₀ ≡ true → marked_at s t' k₀ j₀ ≡ false
       → ((k j : ℕ) → Node s k j → ((k ≡ k₀) × (j ≡ j₀) → ⊥) → marked_at s t' k j ≡ marked_at s t k j)
       → weighed w t ≡ w k₀ j₀ + weighed w t'
-  weighed-one w t t' k₀ j₀ v is was same =
-      nodes-one s _ _ k₀ j₀ (w k₀ j₀) v (rw (is, was) (omega arith)) (λ k j u ne. ap (λ b. cond b (w k j) 0) (sym (same k j u ne)))
+  weighed_one w t t' k₀ j₀ v is was same =
+      nodes_one s _ _ k₀ j₀ (w k₀ j₀) v (rw (is, was) (omega arith)) (λ k j u ne. ap (λ b. cond b (w k j) 0) (sym (same k j u ne)))
 
   -- a mark adds one at most
   marks-mark : (t : List ℕ) (k₀ j₀ : ℕ) → Long t → Node s k₀ j₀ → marks s (mark t (place s k₀ j₀)) ≤ 1 + marks s t
@@ -132,7 +132,7 @@ module _ (s : Shape) where
     where
       differ : (d : ℕ) → 1 ≡ d + cond (marked t (place s k₀ j₀)) 1 0 → marks s (mark t (place s k₀ j₀)) ≡ d + marks s t
       differ d e =
-          nodes-one s _ _ k₀ j₀ d v (rw (marked-mark t (place s k₀ j₀) (room t k₀ j₀ long v)) e)
+          nodes_one s _ _ k₀ j₀ d v (rw (marked-mark t (place s k₀ j₀) (room t k₀ j₀ long v)) e)
           (λ k j u ne. ap (λ b. cond b 1 0) (marked-mark_other t _ _ (place_other s k j k₀ j₀ u v ne)))
 
       go : (b : Bool) → marked t (place s k₀ j₀) ≡ b → marks s (mark t (place s k₀ j₀)) ≤ 1 + marks s t
@@ -140,28 +140,28 @@ module _ (s : Shape) where
       go false e = let a = differ 1 (rw e) in omega arith
 
   module _ (wide : 2 ≤ s.fanout) (p : ℕ) (there : p < s.pages) (t : List ℕ) (long : Long t) where
-    path-long : (m : ℕ) → Long (mark_path s p m t)
-    path-long m = rw length-path long
+    path_long : (m : ℕ) → Long (mark_path s p m t)
+    path_long m = rw length-path long
 
     -- nodes off the path keep their marks
-    pub path-off : (m k j : ℕ) → m ≤ layer_count s → Node s k j → path s.fanout p k ≢ j
+    pub path_off : (m k j : ℕ) → m ≤ layer_count s → Node s k j → path s.fanout p k ≢ j
         → marked_at s (mark_path s p m t) k j ≡ marked_at s t k j
     unfolding mark_path marked_at
-    path-off zero k j l v ne = refl
-    path-off (suc m) k j l v ne =
+    path_off zero k j l v ne = refl
+    path_off (suc m) k j l v ne =
         marked-mark_other (mark_path s p m t) _ _
-        (place_other s k j m (path s.fanout p m) v (path-node s p m wide there (omega arith))
+        (place_other s k j m (path s.fanout p m) v (path_node s p m wide there (omega arith))
         (λ e. ne (ap (path s.fanout p) e.0 ∙ sym e.1)))
-        ∙ path-off m k j (omega arith) v ne
+        ∙ path_off m k j (omega arith) v ne
 
     -- and those on it are marked
-    pub path-on : (m k : ℕ) → m ≤ layer_count s → k < m → marked_at s (mark_path s p m t) k (path s.fanout p k) ≡ true
+    pub path_on : (m k : ℕ) → m ≤ layer_count s → k < m → marked_at s (mark_path s p m t) k (path s.fanout p k) ≡ true
     unfolding mark_path marked_at
-    path-on zero k l h = absurd (omega arith)
-    path-on (suc m) k l h =
-        let r = room (mark_path s p m t) m (path s.fanout p m) (path-long m) (path-node s p m wide there (omega arith)) in
+    path_on zero k l h = absurd (omega arith)
+    path_on (suc m) k l h =
+        let r = room (mark_path s p m t) m (path s.fanout p m) (path_long m) (path_node s p m wide there (omega arith)) in
         by_last k m h
-        (λ low. mark_stays (mark_path s p m t) _ _ r (path-on m k (omega arith) low))
+        (λ low. mark_stays (mark_path s p m t) _ _ r (path_on m k (omega arith) low))
         (λ q. subst (λ y. marked (mark (mark_path s p m t) (place s m (path s.fanout p m))) (place s y (path s.fanout p y)) ≡ true) (sym q)
         (marked-mark (mark_path s p m t) _ r))
 
@@ -171,5 +171,5 @@ module _ (s : Shape) where
     marks-path zero l = omega arith
     marks-path (suc m) l =
         let a = marks-path m (omega arith) in
-        let b = marks-mark (mark_path s p m t) m (path s.fanout p m) (path-long m) (path-node s p m wide there (omega arith)) in
+        let b = marks-mark (mark_path s p m t) m (path s.fanout p m) (path_long m) (path_node s p m wide there (omega arith)) in
         omega arith

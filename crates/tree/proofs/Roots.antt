@@ -13,10 +13,10 @@ use Rattle.tree.specs.Shapes.{root_layer, layer_count, Node}
 use Rattle.tree.specs.Trees.{tree_root}
 use Rattle.tree.specs.Views.{State, View, digest_at}
 use Rattle.tree.proofs.Events.{pages_same}
-use Rattle.tree.proofs.Invariant.{seal, Inv, inv-run, digest-true, some-pages}
-use Rattle.tree.proofs.Marks.{marks-zero}
-use Rattle.tree.proofs.Rows.{passed-from-ok, answer-from-ok}
-use Rattle.tree.proofs.Shapes.{layer-some}
+use Rattle.tree.proofs.Invariant.{seal, Inv, inv_run, digest_true, some_pages}
+use Rattle.tree.proofs.Marks.{marks_zero}
+use Rattle.tree.proofs.Rows.{passed_from_ok, answer_from_ok}
+use Rattle.tree.proofs.Shapes.{layer_some}
 
 -- which answer it is, and which one a call gives where it is not refused
 abbrev kind : Answer → ℕ
@@ -67,31 +67,31 @@ count_ok (Ok x) n e = cc
 count_ok (Err x) n e = cc
 
 module _ (m : Making) (acc : Accepted m) where
-  root-node : Node (shape_in m) (root_layer (shape_in m)) 0
+  root_node : Node (shape_in m) (root_layer (shape_in m)) 0
   unfolding layer_count
-  root-node =
-      let b = layer-some (shape_in m) (root_layer (shape_in m)) m.hash.wide (some-pages m acc) in
+  root_node =
+      let b = layer_some (shape_in m) (root_layer (shape_in m)) m.hash.wide (some_pages m acc) in
       record { low = omega arith; left = omega arith }
 
   module _ (s : State) (es : List Event) (i : Inv m s es) where
     -- with no node marked, the root's digest is the tree's
-    pub root-held : marks (shape_in m) s.table ≡ 0 → digest_at (seal m s) (root_layer (shape_in m)) 0 ≡ root_after m es
+    pub root_held : marks (shape_in m) s.table ≡ 0 → digest_at (seal m s) (root_layer (shape_in m)) 0 ≡ root_after m es
     unfolding tree_root
-    root-held e = digest-true m s es i _ _ root-node (marks-zero (shape_in m) s.table e _ _ root-node)
+    root_held e = digest_true m s es i _ _ root_node (marks_zero (shape_in m) s.table e _ _ root_node)
 
     -- a root that is given out is the tree's
-    root-given : (out : List ℕ) → answer_of (seal m s) (Root out) ≡ RootRead
+    root_given : (out : List ℕ) → answer_of (seal m s) (Root out) ≡ RootRead
         → buffer_of (seal m s) (Root out) ≡ root_after m (did (Root out) (answer_of (seal m s) (Root out)) ∷ es)
     unfolding answer_of buffer_of root_answer root_out put_in
-    root-given out e =
+    root_given out e =
         let ok : root_answer (seal m s) (length out) ≡ Ok tt = root_ok _ e in
-        let z : marks (shape_in m) s.table ≡ 0 = eqb-true _ _ (not-false _ (passed-from-ok (root_rows (seal m s) (length out)) tt tt ok).1.1.1.1.0) in
+        let z : marks (shape_in m) s.table ≡ 0 = eqb-true _ _ (not-false _ (passed_from_ok (root_rows (seal m s) (length out)) tt tt ok).1.1.1.1.0) in
         ap (λ r. cond (is_ok r) (digest_at (seal m s) (root_layer (shape_in m)) 0) out) ok
-        ∙ root-held z ∙ ap (tree_root m.hash (count m.image)) (sym (pages_same m _ es refl))
+        ∙ root_held z ∙ ap (tree_root m.hash (count m.image)) (sym (pages_same m _ es refl))
 
-  pub root-true : (calls : List Call) → RootTrue m calls
+  pub root_true : (calls : List Call) → RootTrue m calls
   unfolding events
-  root-true calls = by_kind _ (seal m (state_after m calls)) RootRead (omega arith) go
+  root_true calls = by_kind _ (seal m (state_after m calls)) RootRead (omega arith) go
     where
       go : (c : Call) → kind_of c ≡ 4 → answer_of (seal m (state_after m calls)) c ≡ RootRead
           → buffer_of (seal m (state_after m calls)) c ≡ root_after m (did c (answer_of (seal m (state_after m calls)) c) ∷ events m calls)
@@ -99,13 +99,13 @@ module _ (m : Making) (acc : Accepted m) where
       go (Put p bytes) k e = absurd (omega arith)
       go (Withdraw p) k e = absurd (omega arith)
       go (Step work) k e = absurd (omega arith)
-      go (Root out) k e = root-given (state_after m calls) (events m calls) (inv-run m acc calls) out e
+      go (Root out) k e = root_given (state_after m calls) (events m calls) (inv_run m acc calls) out e
       go Stale k e = absurd (omega arith)
 
 -- a stale count counts the marks
-pub count-true : (m : Making) (calls : List Call) → CountTrue m calls
+pub count_true : (m : Making) (calls : List Call) → CountTrue m calls
 unfolding state_after
-count-true m calls c n = by_kind (λ c. n ≡ marks (shape_in m) (state_of (seal m (state_after m calls)) c).table) (seal m (state_after m calls)) (Counted n) (omega arith) go c
+count_true m calls c n = by_kind (λ c. n ≡ marks (shape_in m) (state_of (seal m (state_after m calls)) c).table) (seal m (state_after m calls)) (Counted n) (omega arith) go c
   where
     go : (c : Call) → kind_of c ≡ 5 → answer_of (seal m (state_after m calls)) c ≡ Counted n → n ≡ marks (shape_in m) (state_of (seal m (state_after m calls)) c).table
     go (Open p out) k e = absurd (omega arith)
@@ -113,4 +113,4 @@ count-true m calls c n = by_kind (λ c. n ≡ marks (shape_in m) (state_of (seal
     go (Withdraw p) k e = absurd (omega arith)
     go (Step work) k e = absurd (omega arith)
     go (Root out) k e = absurd (omega arith)
-    go Stale k e = unfold answer_of state_of stale_answer in sym (answer-from-ok (stale_rows (seal m (state_after m calls))) _ n (count_ok _ n e))
+    go Stale k e = unfold answer_of state_of stale_answer in sym (answer_from_ok (stale_rows (seal m (state_after m calls))) _ n (count_ok _ n e))

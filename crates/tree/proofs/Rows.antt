@@ -9,24 +9,24 @@ Passed [] = Unit {0}
 Passed (on bad refusal at ∷ rows) = (bad ≡ false) × Passed rows
 
 module _ {A : Type 0} where
-  pub passed-from-ok : (rows : List Row) (x y : A) → unless rows x ≡ Ok y → Passed rows
-  passed-from-ok [] x y e = tt
-  passed-from-ok (on true refusal at ∷ rows) x y e = (cc, passed-from-ok rows x y (cc))
-  passed-from-ok (on false refusal at ∷ rows) x y e = (refl, passed-from-ok rows x y e)
+  pub passed_from_ok : (rows : List Row) (x y : A) → unless rows x ≡ Ok y → Passed rows
+  passed_from_ok [] x y e = tt
+  passed_from_ok (on true refusal at ∷ rows) x y e = (cc, passed_from_ok rows x y (cc))
+  passed_from_ok (on false refusal at ∷ rows) x y e = (refl, passed_from_ok rows x y e)
 
-  pub ok-from-passed : (rows : List Row) (x : A) → Passed rows → unless rows x ≡ Ok x
-  ok-from-passed [] x h = refl
-  ok-from-passed (on bad refusal at ∷ rows) x h = rw h.0 (ok-from-passed rows x h.1)
+  pub ok_from_passed : (rows : List Row) (x : A) → Passed rows → unless rows x ≡ Ok x
+  ok_from_passed [] x h = refl
+  ok_from_passed (on bad refusal at ∷ rows) x h = rw h.0 (ok_from_passed rows x h.1)
 
   -- and the answer is then the one that was to be given
-  pub answer-from-ok : (rows : List Row) (x y : A) → unless rows x ≡ Ok y → x ≡ y
-  answer-from-ok rows x y e = let p = ok-from-passed rows x (passed-from-ok rows x y e) in cc
+  pub answer_from_ok : (rows : List Row) (x y : A) → unless rows x ≡ Ok y → x ≡ y
+  answer_from_ok rows x y e = let p = ok_from_passed rows x (passed_from_ok rows x y e) in cc
 
   -- where the conditions of the first n rows do not hold, the others decide
-  pub after-passed : (n : ℕ) (rows : List Row) (x : A) → Passed (take n rows) → unless rows x ≡ unless (drop n rows) x
-  after-passed zero rows x h = refl
-  after-passed (suc n) [] x h = refl
-  after-passed (suc n) (on bad refusal at ∷ rows) x h = rw h.0 (after-passed n rows x h.1)
+  pub after_passed : (n : ℕ) (rows : List Row) (x : A) → Passed (take n rows) → unless rows x ≡ unless (drop n rows) x
+  after_passed zero rows x h = refl
+  after_passed (suc n) [] x h = refl
+  after_passed (suc n) (on bad refusal at ∷ rows) x h = rw h.0 (after_passed n rows x h.1)
 
   -- what holds of a call that is refused, and of one that passes all rows, holds of the call
   pub by_rows : (P : Result A Fault → Type 0) (rows : List Row) (x : A) → ((e : Fault) → P (Err e)) → (Passed rows → P (Ok x)) → P (unless rows x)

@@ -1,11 +1,11 @@
 use Rattle.std.proofs.Common.{◌≡◌, [], map, get_or, sym, arith}
 use Rattle.blake2.specs.Compression.{round, feed, compress}
 use Rattle.blake2.specs.Schedule.{sigma}
-use Rattle.blake2.proofs.Repeat.{repeat-none, repeat_more}
+use Rattle.blake2.proofs.Repeat.{repeat_none, repeat_more}
 use Rattle.blake2.proofs.compression.compress.Goals as goal
 
 pub loop-i-init : goal.loop-i-init
-loop-i-init g c = sym (repeat-none _ _)
+loop-i-init g c = sym (repeat_none _ _)
 
 pub loop-i-preserved : goal.loop-i-preserved
 loop-i-preserved g c =
@@ -14,7 +14,7 @@ loop-i-preserved g c =
     cc
 
 pub loop-i-2-init : goal.loop-i-2-init
-loop-i-2-init g c = sym (repeat-none _ _)
+loop-i-2-init g c = sym (repeat_none _ _)
 
 pub loop-i-2-preserved : goal.loop-i-2-preserved
 loop-i-2-preserved g c =

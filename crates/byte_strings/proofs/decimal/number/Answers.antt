@@ -1,7 +1,7 @@
 use Rattle.std.proofs.Common.{sym, ap, ◌∙◌, subst, arith}
 use Rattle.std.proofs.lemmas.List.{take_all}
 use Rattle.std.specs.Str.Parse.{digits_value, AllDigits}
-use Rattle.byte_strings.proofs.Decimals.{numbered-none, numbered_some, short_value, one_more}
+use Rattle.byte_strings.proofs.Decimals.{numbered_none, numbered_some, short_value, one_more}
 use Rattle.byte_strings.proofs.decimal.number.Goals as goal
 
 pub returns : goal.returns
@@ -12,7 +12,7 @@ returns c =
 
 pub returns-then-not-is_ascii_digit : goal.returns-then-not-is_ascii_digit
 returns-then-not-is_ascii_digit c =
-    sym (numbered-none c.args.digits.now c.loop-d.d-index c.loop-d-test.true (sym c.if-not-is_ascii_digit.ensures.value))
+    sym (numbered_none c.args.digits.now c.loop-d.d-index c.loop-d-test.true (sym c.if-not-is_ascii_digit.ensures.value))
 
 pub overflow_mul-n : goal.overflow_mul-n
 overflow_mul-n c = omega (arith, short_value c.args.digits.now c.loop-d.d-index (omega arith) (omega arith) c.loop-d.invariant.0)

@@ -3,7 +3,7 @@ use lib.Bits.{bit_xor}
 use Rattle.std.proofs.lemmas.List.{get_or-map}
 use Rattle.blake2.specs.Bytes.{word_at}
 use Rattle.stream.specs.Hash.{initial}
-use Rattle.stream.proofs.Filled.{filled_more, filled-all}
+use Rattle.stream.proofs.Filled.{filled_more, filled_all}
 use Rattle.stream.proofs.Words.{within}
 use Rattle.stream.proofs.chain.initial.Goals as goal
 
@@ -29,4 +29,4 @@ pub returns : goal.returns
 unfolding initial
 returns g c =
     let w = g.W.Word.width in
-    filled-all g.W.Word.value (λ k. bit_xor (get_or w.iv k 0) (word_at w c.args.p.now k)) 8 c.loop-i.h c.loop-i.i (omega arith) c.loop-i.invariant
+    filled_all g.W.Word.value (λ k. bit_xor (get_or w.iv k 0) (word_at w c.args.p.now k)) 8 c.loop-i.h c.loop-i.i (omega arith) c.loop-i.invariant

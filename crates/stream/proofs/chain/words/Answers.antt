@@ -1,6 +1,6 @@
 use Rattle.std.proofs.Common.{length, arith}
 use Rattle.blake2.specs.Bytes.{word_at, words_of}
-use Rattle.stream.proofs.Filled.{filled_more, filled-all}
+use Rattle.stream.proofs.Filled.{filled_more, filled_all}
 use Rattle.stream.proofs.Words.{within}
 use Rattle.stream.proofs.chain.words.Goals as goal
 
@@ -16,4 +16,4 @@ loop-i-preserved g c =
 pub returns : goal.returns
 unfolding words_of
 returns g c =
-    filled-all g.W.Word.value (word_at g.W.Word.width c.args.block.now) 16 c.loop-i.m c.loop-i.i (omega arith) c.loop-i.invariant
+    filled_all g.W.Word.value (word_at g.W.Word.width c.args.block.now) 16 c.loop-i.m c.loop-i.i (omega arith) c.loop-i.invariant

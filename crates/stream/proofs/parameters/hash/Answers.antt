@@ -3,7 +3,7 @@ use Rattle.std.proofs.lemmas.List.{append-nil}
 use Rattle.std.proofs.lemmas.Result.{err_from_is_err_and}
 use Rattle.blake2.specs.Bytes.{bytes_of}
 use Rattle.stream.specs.Hash.{before, ended, hash, initial, key_block}
-use Rattle.stream.proofs.Hashes.{begin_tells, begin-refuses, length-refuses, hash-accepted, hash-kept, hash-written}
+use Rattle.stream.proofs.Hashes.{begin_tells, begin_refuses, length_refuses, hash-accepted, hash_kept, hash-written}
 use Rattle.stream.proofs.Keys.{keyed_most, length-keyed}
 use Rattle.stream.proofs.Memory.{state_fits}
 use Rattle.stream.proofs.parameters.hash.Goals as goal
@@ -15,10 +15,10 @@ returns-in_err-check g c =
     let key = c.args.key.now in
     let input = c.args.input.now in
     let out = c.args.out.now in
-    let stop = begin-refuses w (length key) (length input) (length out) c.in_err-check.field-0.0 (sym c.in_err-check.ensures) in
+    let stop = begin_refuses w (length key) (length input) (length out) c.in_err-check.field-0.0 (sym c.in_err-check.ensures) in
     record {
       answer = r.1 ∙ ap Err r.2 ∙ sym stop;
-      out = hash-kept w c.args.last_node c.args.parameters.now key input out _ stop;
+      out = hash_kept w c.args.last_node c.args.parameters.now key input out _ stop;
     }
 
 pub returns-then-input-gt-LIMIT : goal.returns-then-input-gt-LIMIT
@@ -27,10 +27,10 @@ returns-then-input-gt-LIMIT g c =
     let key = c.args.key.now in
     let input = c.args.input.now in
     let out = c.args.out.now in
-    let stop = length-refuses w (length key) (length input) (length out) (sym c.in_ok-check.ensures) c.if-input-gt-LIMIT.true in
+    let stop = length_refuses w (length key) (length input) (length out) (sym c.in_ok-check.ensures) c.if-input-gt-LIMIT.true in
     record {
       answer = ap Err c.new.ensures ∙ sym stop;
-      out = hash-kept w c.args.last_node c.args.parameters.now key input out _ stop;
+      out = hash_kept w c.args.last_node c.args.parameters.now key input out _ stop;
     }
 
 pub add-requires : goal.add-requires

@@ -2,7 +2,7 @@ use Rattle.std.proofs.Common.{length, is_ok, sym, ap, ◌∙◌, rules}
 use Rattle.image.proofs.Outcomes.{ok_is, read_done, read_refused}
 use Rattle.bench.specs.Benches.{bench_answer, bench_made, bench_state}
 use Rattle.bench.specs.Sound.{bench_sound}
-use Rattle.bench.proofs.Spans.{read_answer_lem, read-span}
+use Rattle.bench.proofs.Spans.{read_answer_lem, read_span}
 use Rattle.bench.proofs.bench.BenchImageImage.read.Goals as goal
 
 pub returns-then-is_err : goal.returns-then-is_err
@@ -21,7 +21,7 @@ overflow_mul-start c =
     let buffer = b.buffer.now in
     let page = c.args.page in
     let out = c.args.out.now in
-    let s = read-span (is_ok (bench_answer b.size b.locked (length buffer))) b.size (bench_state b.locked) buffer (bench_sound b.size b.locked buffer) c.extent.result page (length out) _ c.check_read-answer.result c.extent.ensures c.is_readable.ensures c.check_read-answer.ensures c.if-is_err.ensures.negation in
+    let s = read_span (is_ok (bench_answer b.size b.locked (length buffer))) b.size (bench_state b.locked) buffer (bench_sound b.size b.locked buffer) c.extent.result page (length out) _ c.check_read-answer.result c.extent.ensures c.is_readable.ensures c.check_read-answer.ensures c.if-is_err.ensures.negation in
     search rules
 
 pub overflow_add-start : goal.overflow_add-start
@@ -30,7 +30,7 @@ overflow_add-start c =
     let buffer = b.buffer.now in
     let page = c.args.page in
     let out = c.args.out.now in
-    let s = read-span (is_ok (bench_answer b.size b.locked (length buffer))) b.size (bench_state b.locked) buffer (bench_sound b.size b.locked buffer) c.extent.result page (length out) _ c.check_read-answer.result c.extent.ensures c.is_readable.ensures c.check_read-answer.ensures c.if-is_err.ensures.negation in
+    let s = read_span (is_ok (bench_answer b.size b.locked (length buffer))) b.size (bench_state b.locked) buffer (bench_sound b.size b.locked buffer) c.extent.result page (length out) _ c.check_read-answer.result c.extent.ensures c.is_readable.ensures c.check_read-answer.ensures c.if-is_err.ensures.negation in
     search rules
 
 pub slice_bounds-copy_from_slice-end : goal.slice_bounds-copy_from_slice-end
@@ -39,7 +39,7 @@ slice_bounds-copy_from_slice-end c =
     let buffer = b.buffer.now in
     let page = c.args.page in
     let out = c.args.out.now in
-    let s = read-span (is_ok (bench_answer b.size b.locked (length buffer))) b.size (bench_state b.locked) buffer (bench_sound b.size b.locked buffer) c.extent.result page (length out) _ c.check_read-answer.result c.extent.ensures c.is_readable.ensures c.check_read-answer.ensures c.if-is_err.ensures.negation in
+    let s = read_span (is_ok (bench_answer b.size b.locked (length buffer))) b.size (bench_state b.locked) buffer (bench_sound b.size b.locked buffer) c.extent.result page (length out) _ c.check_read-answer.result c.extent.ensures c.is_readable.ensures c.check_read-answer.ensures c.if-is_err.ensures.negation in
     search rules
 
 pub returns : goal.returns
@@ -48,7 +48,7 @@ returns c =
     let buffer = b.buffer.now in
     let page = c.args.page in
     let out = c.args.out.now in
-    let s = read-span (is_ok (bench_answer b.size b.locked (length buffer))) b.size (bench_state b.locked) buffer (bench_sound b.size b.locked buffer) c.extent.result page (length out) _ c.check_read-answer.result c.extent.ensures c.is_readable.ensures c.check_read-answer.ensures c.if-is_err.ensures.negation in
+    let s = read_span (is_ok (bench_answer b.size b.locked (length buffer))) b.size (bench_state b.locked) buffer (bench_sound b.size b.locked buffer) c.extent.result page (length out) _ c.check_read-answer.result c.extent.ensures c.is_readable.ensures c.check_read-answer.ensures c.if-is_err.ensures.negation in
     let m = bench_made b.size b.locked buffer in
     let same = read_answer_lem (is_ok (bench_answer b.size b.locked (length buffer))) b.size (bench_state b.locked) buffer (bench_sound b.size b.locked buffer) c.extent.result page (length out) _ c.check_read-answer.result c.extent.ensures c.is_readable.ensures c.check_read-answer.ensures in
     record {

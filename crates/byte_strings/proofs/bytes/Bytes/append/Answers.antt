@@ -1,7 +1,7 @@
 use Rattle.std.proofs.Common.{◌<◌, [], ◌∷◌, ◌++◌, length, get_or, sym, ap, ◌∙◌, append_assoc, arith}
 use Rattle.std.proofs.lemmas.List.{take_more, take_all}
 use Rattle.byte_strings.specs.Strings.{listed}
-use Rattle.byte_strings.proofs.Strings.{length-listed, fits, exceeds, appended_all, appended-none}
+use Rattle.byte_strings.proofs.Strings.{length-listed, fits, exceeds, appended_all, appended_none}
 use Rattle.byte_strings.proofs.bytes.Bytes.append.Goals as goal
 
 pub returns-then-more-self : goal.returns-then-more-self
@@ -10,7 +10,7 @@ returns-then-more-self g c =
     let n = length-listed c.args.self.now in
     record {
       answer = sym (exceeds g.row.N bs c.args.more.now (omega arith));
-      after = sym (appended-none g.row.N bs c.args.more.now (omega arith));
+      after = sym (appended_none g.row.N bs c.args.more.now (omega arith));
     }
 
 pub loop-b-preserved : goal.loop-b-preserved

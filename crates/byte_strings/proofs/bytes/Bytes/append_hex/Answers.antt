@@ -3,7 +3,7 @@ use Rattle.std.proofs.lemmas.List.{take_all}
 use Rattle.byte_strings.specs.Hexadecimal.{hex}
 use Rattle.byte_strings.specs.Strings.{listed}
 use Rattle.byte_strings.proofs.Hexadecimals.{hex_more, length-hex}
-use Rattle.byte_strings.proofs.Strings.{length-listed, fits, exceeds, appended_all, appended-none}
+use Rattle.byte_strings.proofs.Strings.{length-listed, fits, exceeds, appended_all, appended_none}
 use Rattle.byte_strings.proofs.bytes.Bytes.append_hex.Goals as goal
 
 pub returns-then-bytes-self : goal.returns-then-bytes-self
@@ -13,7 +13,7 @@ returns-then-bytes-self g c =
     let m = length-hex c.args.bytes.now in
     record {
       answer = sym (exceeds g.row.N bs (hex c.args.bytes.now) (omega arith));
-      after = sym (appended-none g.row.N bs (hex c.args.bytes.now) (omega arith));
+      after = sym (appended_none g.row.N bs (hex c.args.bytes.now) (omega arith));
     }
 
 pub loop-b-preserved : goal.loop-b-preserved

@@ -2,7 +2,7 @@ use Rattle.std.proofs.Common.{◌+◌, ◌*◌, length, drop, sym, ap, ◌∙◌
 use Rattle.std.proofs.lemmas.List.{drop_all}
 use Rattle.byte_strings.specs.Hexadecimal.{unhex}
 use Rattle.byte_strings.specs.Strings.{listed}
-use Rattle.byte_strings.proofs.Hexadecimals.{unhex-more, unhex-stop-high, unhex-stop-low, hex_within_odd, hex_within_long, hex_within-none, hex_within_some}
+use Rattle.byte_strings.proofs.Hexadecimals.{unhex_more, unhex_stop_high, unhex_stop_low, hex_within_odd, hex_within_long, hex_within_none, hex_within_some}
 use Rattle.byte_strings.proofs.Strings.{length-listed}
 use Rattle.byte_strings.proofs.bytes.Bytes.from_hex.Goals as goal
 
@@ -20,17 +20,17 @@ loop-i-init g c = (
 pub returns-in_default : goal.returns-in_default
 returns-in_default g c =
     let v = c.args.digits.now in
-    sym (hex_within-none g.row.N v (sym c.loop-i.invariant.1 ∙ unhex-stop-high v c.loop-i.i (omega arith) (listed c.loop-i.bytes) c.in_default.ensures))
+    sym (hex_within_none g.row.N v (sym c.loop-i.invariant.1 ∙ unhex_stop_high v c.loop-i.i (omega arith) (listed c.loop-i.bytes) c.in_default.ensures))
 
 pub returns-in_default-hex_digit : goal.returns-in_default-hex_digit
 returns-in_default-hex_digit g c =
     let v = c.args.digits.now in
-    sym (hex_within-none g.row.N v (sym c.loop-i.invariant.1 ∙ unhex-stop-low v c.loop-i.i (omega arith) (listed c.loop-i.bytes) c.in_default-hex_digit.ensures))
+    sym (hex_within_none g.row.N v (sym c.loop-i.invariant.1 ∙ unhex_stop_low v c.loop-i.i (omega arith) (listed c.loop-i.bytes) c.in_default-hex_digit.ensures))
 
 pub loop-i-preserved : goal.loop-i-preserved
 loop-i-preserved g c = (
   omega (arith, c.push.ensures.len, c.loop-i.invariant.0),
-  ap (λ bs. unhex bs (drop (2 * (c.loop-i.i + 1)) c.args.digits.now)) c.push.ensures.bytes ∙ sym (unhex-more c.args.digits.now c.loop-i.i (omega arith) (listed c.loop-i.bytes) c.in-Some.high c.in-Some-hex_digit.low c.in-Some.ensures.0 c.in-Some.ensures.1 c.in-Some-hex_digit.ensures.0 c.in-Some-hex_digit.ensures.1) ∙ c.loop-i.invariant.1,
+  ap (λ bs. unhex bs (drop (2 * (c.loop-i.i + 1)) c.args.digits.now)) c.push.ensures.bytes ∙ sym (unhex_more c.args.digits.now c.loop-i.i (omega arith) (listed c.loop-i.bytes) c.in-Some.high c.in-Some-hex_digit.low c.in-Some.ensures.0 c.in-Some.ensures.1 c.in-Some-hex_digit.ensures.0 c.in-Some-hex_digit.ensures.1) ∙ c.loop-i.invariant.1,
 )
 
 pub returns : goal.returns

@@ -1,7 +1,7 @@
 use Rattle.std.proofs.Common.{◌≡◌, ◌^◌, ◌<◌, true, length, is_ok, sym, ◌∙◌, arith}
 use Rattle.image.specs.Pages.{count}
 use Rattle.pair.specs.Pairs.{pair_answer}
-use Rattle.pair.proofs.Joins.{read-front, out-front, read_fits, second-read, second-out}
+use Rattle.pair.proofs.Joins.{read_front, out_front, read_fits, second_read, second_out}
 use Rattle.pair.proofs.pair.PairImage.read.Goals as goal
 
 pub returns-then-page-front : goal.returns-then-page-front
@@ -13,8 +13,8 @@ returns-then-page-front g c =
     let out = c.args.out.now in
     let h : page < count a = omega (arith, c.page_count-front.ensures) in
     record {
-      answer = c.read.ensures.answer ∙ sym (read-front a b ok page (length out) h);
-      out = c.read.ensures.out ∙ sym (out-front a b ok page out h);
+      answer = c.read.ensures.answer ∙ sym (read_front a b ok page (length out) h);
+      out = c.read.ensures.out ∙ sym (out_front a b ok page out h);
     }
 
 pub recount-requires : goal.recount-requires
@@ -33,6 +33,6 @@ returns g c =
     let page = c.args.page in
     let out = c.args.out.now in
     record {
-      answer = c.recount.ensures ∙ second-read a b ok page c.page_count-front.result c.page_count-front.ensures c.if-page-front.false (length out) c.read-answer.result c.read-answer.ensures.answer;
-      out = second-out a b ok page c.page_count-front.result c.page_count-front.ensures c.if-page-front.false out c.read-answer.new.out c.read-answer.ensures.out;
+      answer = c.recount.ensures ∙ second_read a b ok page c.page_count-front.result c.page_count-front.ensures c.if-page-front.false (length out) c.read-answer.result c.read-answer.ensures.answer;
+      out = second_out a b ok page c.page_count-front.result c.page_count-front.ensures c.if-page-front.false out c.read-answer.new.out c.read-answer.ensures.out;
     }
