@@ -3,6 +3,7 @@ ghost use Rattle.std.specs.Prelude.{◌≡◌, Some};
 ghost use Rattle.fault.specs.Faults.{fault, place_of, fault_text};
 
 use crate::{Module, Refusal};
+use std::error::Error;
 use std::fmt;
 
 // The place is a line of a text, a page of an image, or 0.
@@ -30,10 +31,16 @@ impl Fault {
 fn place(number: Refusal, at: usize) -> usize
     ensures { result ≡ place_of number at }
 {
-    match number.number() {
-        21..=23 | 35..=38 => at,
-        61 | 62 => 9,
-        63 => 7,
+    match number {
+        Refusal::LineForm
+        | Refusal::NumberRange
+        | Refusal::BytesLeft
+        | Refusal::PageAbsent
+        | Refusal::PageBuffer
+        | Refusal::PageUnreadable
+        | Refusal::PageLocked => at,
+        Refusal::LayoutExpected | Refusal::LayoutRegistered => 9,
+        Refusal::RegisteredPage => 7,
         _ => 0,
     }
 }
@@ -43,10 +50,12 @@ impl fmt::Display for Fault {
     ghost output = { λ f. Some (fault_text f) };
 
     fn fmt<W: fmt::Write>(&self, f: &mut fmt::Formatter<W>) -> fmt::Result {
-        let number = self.number.number();
+        let number = u32::from(self.number);
         let module = self.module;
         let place = self.place;
         let sentence = self.number.sentence();
         write!(f, "{number} {module} {place}: {sentence}")
     }
 }
+
+impl Error for Fault {}

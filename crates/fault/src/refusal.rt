@@ -43,25 +43,52 @@ pub enum Refusal {
     RegisteredPage = 63,
 }
 
-impl Refusal {
-    // The number that C and the program's output have for it.
-    pub fn number(self) -> u32
-        ensures { result ≡ number_of self }
-    {
-        self as u32
-    }
+// The number that C and the program's output have for it.
+impl From<Refusal> for u32 {
+    ghost from_gives = { λ refusal number. number ≡ number_of refusal };
 
+    fn from(refusal: Refusal) -> u32 {
+        refusal as u32
+    }
+}
+
+impl Refusal {
     // The module whose call is the first to give it.
     pub fn origin(self) -> Module
         ensures { result ≡ module_of self }
     {
-        match self.number() {
-            0..=14 => Module::Stream,
-            15..=20 => Module::Hash,
-            21..=30 => Module::Label,
-            31..=40 => Module::Image,
-            41..=60 => Module::Seal,
-            _ => Module::Check,
+        match self {
+            Refusal::DigestLength
+            | Refusal::KeyLength
+            | Refusal::StreamLength
+            | Refusal::DigestBuffer => Module::Stream,
+            Refusal::NodeInput => Module::Hash,
+            Refusal::LineForm | Refusal::NumberRange | Refusal::BytesLeft | Refusal::LabelBuffer =>
+                Module::Label,
+            Refusal::ImageShape
+            | Refusal::PageStates
+            | Refusal::LockedPages
+            | Refusal::PairParts
+            | Refusal::PageAbsent
+            | Refusal::PageBuffer
+            | Refusal::PageUnreadable
+            | Refusal::PageLocked => Module::Image,
+            Refusal::HashUnfit
+            | Refusal::PageLength
+            | Refusal::NoPages
+            | Refusal::DepthLimit
+            | Refusal::TableLength
+            | Refusal::SealVoid
+            | Refusal::WorkBuffer
+            | Refusal::PageOpen
+            | Refusal::TicketPage
+            | Refusal::RootWhileOpen
+            | Refusal::NodeMarked
+            | Refusal::RootBuffer
+            | Refusal::PageList => Module::Seal,
+            Refusal::LayoutExpected | Refusal::LayoutRegistered | Refusal::RegisteredPage => {
+                Module::Check
+            }
         }
     }
 

@@ -13,7 +13,7 @@ mod tests {
     fn outcome(answer: Result<(), Fault>) -> (u32, usize) {
         match answer {
             Ok(()) => (0, 0),
-            Err(fault) => (fault.number.number(), fault.place),
+            Err(fault) => (u32::from(fault.number), fault.place),
         }
     }
 

@@ -22,7 +22,7 @@ fn status_of(answer: Result<u64, Fault>) -> u32
 {
     match answer {
         Ok(_) => 0,
-        Err(fault) => fault.number.number(),
+        Err(fault) => u32::from(fault.number),
     }
 }
 
