@@ -1,4 +1,5 @@
 pub mod Bytes
 pub mod Compression
 pub mod Schedule
+pub mod Variants
 pub mod Width
