@@ -37,25 +37,27 @@ fn print_line(
     key: &[u8],
     file: &str,
 ) -> Result<(), Failure> {
-    let heap = rt.alloc();
     let text = match options.variant {
-        Variant::B => {
-            let n = options.bytes.unwrap_or(64);
-            Stream::<u64>::check(n, key)?;
-            let mut digest = vec![in heap; 0u8; n]?;
-            digest_file(rt, Stream::<u64>::begin(n, key), file, &mut digest)?;
-            hex_string(heap, &digest)?
-        }
-        Variant::S => {
-            let n = options.bytes.unwrap_or(32);
-            Stream::<u32>::check(n, key)?;
-            let mut digest = vec![in heap; 0u8; n]?;
-            digest_file(rt, Stream::<u32>::begin(n, key), file, &mut digest)?;
-            hex_string(heap, &digest)?
-        }
+        Variant::B => digest_text::<u64>(rt, options.bytes, key, file)?,
+        Variant::S => digest_text::<u32>(rt, options.bytes, key, file)?,
     };
     println!(rt; "{text}  {file}")?;
     Ok(())
+}
+
+// The digits of a digest of so many bytes, or of as many as there can be.
+fn digest_text<W: Word>(
+    rt: &HostRuntime,
+    bytes: Option<usize>,
+    key: &[u8],
+    file: &str,
+) -> Result<String, Failure> {
+    let heap = rt.alloc();
+    let bytes = bytes.unwrap_or(8 * W::size());
+    Stream::<W>::check(bytes, key)?;
+    let mut digest = vec![in heap; 0u8; bytes]?;
+    digest_file(rt, Stream::<W>::begin(bytes, key), file, &mut digest)?;
+    Ok(hex_string(heap, &digest)?)
 }
 
 fn digest_file<W: Word>(

@@ -18,9 +18,7 @@ pub(crate) fn run(rt: &HostRuntime) -> Result<(), Failure> {
 fn whole(rt: &HostRuntime) -> Result<(), Failure> {
     let mut digest = [0u8; 32];
     let blocks = stream::digest::<u64>(32, &[], LAYOUT, &mut digest)?;
-    let text = hex_string(rt.alloc(), &digest)?;
-    println!(rt; "  BLAKE2b  {text}  {blocks} compression")?;
-    Ok(())
+    print(rt, "BLAKE2b", &digest, blocks)
 }
 
 fn pieces(rt: &HostRuntime) -> Result<(), Failure> {
@@ -29,28 +27,35 @@ fn pieces(rt: &HostRuntime) -> Result<(), Failure> {
     stream.add(b"CLUTCH")?;
     stream.add(b"-07")?;
     let blocks = stream.finish(&mut digest)?;
-    let text = hex_string(rt.alloc(), &digest)?;
-    println!(rt; "  BLAKE2b  {text}  {blocks} compression")?;
-    Ok(())
+    print(rt, "BLAKE2b", &digest, blocks)
 }
 
 fn keyed(rt: &HostRuntime) -> Result<(), Failure> {
     let mut digest = [0u8; 16];
     let blocks = stream::digest::<u32>(16, b"bench 4", LAYOUT, &mut digest)?;
-    let text = hex_string(rt.alloc(), &digest)?;
-    println!(rt; "  BLAKE2s  {text}  {blocks} compressions")?;
+    print(rt, "BLAKE2s", &digest, blocks)
+}
+
+// One line: the digest, and how many compressions it took.
+fn print(rt: &HostRuntime, name: &str, digest: &[u8], blocks: u64) -> Result<(), Failure> {
+    let text = hex_string(rt.alloc(), digest)?;
+    let unit = if blocks == 1 {
+        "compression"
+    } else {
+        "compressions"
+    };
+    println!(rt; "  {name}  {text}  {blocks} {unit}")?;
     Ok(())
 }
 
 fn refused(rt: &HostRuntime) -> Result<(), Failure> {
-    if let Err(fault) = Stream::<u64>::check(65, &[]) {
-        println!(rt; "  {fault}")?;
-    }
-    if let Err(fault) = Stream::<u32>::check(32, &[7; 33]) {
-        println!(rt; "  {fault}")?;
-    }
     let mut short = [0u8; 31];
-    if let Err(fault) = Stream::<u32>::begin(32, &[]).finish(&mut short) {
+    let answers = [
+        Stream::<u64>::check(65, &[]),
+        Stream::<u32>::check(32, &[7; 33]),
+        Stream::<u32>::begin(32, &[]).finish(&mut short).map(|_| ()),
+    ];
+    for fault in answers.iter().filter_map(|answer| answer.err()) {
         println!(rt; "  {fault}")?;
     }
     Ok(())

@@ -1,56 +1,23 @@
 // Why a command could not do its work.
 use fault::Fault;
 use std::alloc::AllocError;
-use std::{fmt, io};
+use std::io;
+use thiserror::Error;
 
-#[derive(Drop)]
+#[derive(Debug, Drop, Error)]
 pub enum Failure {
     // The library refused.
-    Refused(Fault),
+    #[error("refused {0}")]
+    Refused(#[from] Fault),
     // A file could not be read, or a line not be written.
-    File(io::Error),
-    Memory,
+    #[error("{0}")]
+    File(#[from] io::Error),
+    #[error("there is not enough memory")]
+    Memory(#[from(alloc)] AllocError),
     // What is wrong was printed already.
+    #[error("see above")]
     Told,
     // The words of the command line do not fit together.
+    #[error("{0}; 'sealbench help' lists commands and options")]
     Usage(&'static str),
-}
-
-impl fmt::Display for Failure {
-    fn fmt<W: fmt::Write>(&self, f: &mut fmt::Formatter<W>) -> fmt::Result {
-        match self {
-            Failure::Refused(fault) => write!(f, "refused {fault}"),
-            Failure::File(error) => write!(f, "{error}"),
-            Failure::Memory => write!(f, "there is not enough memory"),
-            Failure::Told => write!(f, "see above"),
-            Failure::Usage(text) => write!(
-                f,
-                "{text}; 'sealbench help' lists commands and options"
-            ),
-        }
-    }
-}
-
-impl From<Fault> for Failure {
-    fn from(fault: Fault) -> Failure {
-        Failure::Refused(fault)
-    }
-}
-
-impl From<io::Error> for Failure {
-    fn from(error: io::Error) -> Failure {
-        Failure::File(error)
-    }
-}
-
-impl From<AllocError> for Failure {
-    fn from(_error: AllocError) -> Failure {
-        Failure::Memory
-    }
-}
-
-impl<T: Drop> From<std::alloc::AllocFailed<T>> for Failure {
-    fn from(_value: std::alloc::AllocFailed<T>) -> Failure {
-        Failure::Memory
-    }
 }

@@ -11,8 +11,8 @@ pub(crate) fn run(rt: &HostRuntime, file: &str) -> Result<(), Failure> {
     match Label::read(&text) {
         Ok(label) => print(rt, &label),
         Err(fault) => {
-            eprintln!(rt; "sealbench: {file}: refused {fault}")?;
-            explain(rt, fault.place)?;
+            let rule = rule(fault.place);
+            eprintln!(rt; "sealbench: {file}: refused {fault}\n{rule}")?;
             Err(Failure::Told)
         }
     }
@@ -22,50 +22,38 @@ fn print(rt: &HostRuntime, label: &Label) -> Result<(), Failure> {
     let heap = rt.alloc();
     let layout = String::from_utf8_lossy(heap, label.layout.as_slice())?;
     let salt = hex_string(heap, label.salt.as_slice())?;
-    let (digest, key, fanout, depth, page) = (
-        label.digest,
-        label.key,
-        label.fanout,
-        label.depth,
-        label.page,
-    );
+    let hash = match label.variant {
+        Variant::B => "BLAKE2b",
+        Variant::S => "BLAKE2s",
+    };
     println!(rt; "layout    {layout}")?;
-    match label.variant {
-        Variant::B => println!(rt; "hash      BLAKE2b, {digest} bytes")?,
-        Variant::S => println!(rt; "hash      BLAKE2s, {digest} bytes")?,
+    println!(rt; "hash      {hash}, {} bytes", label.digest)?;
+    match label.key {
+        0 => println!(rt; "key       none")?,
+        key => println!(rt; "key       {key} bytes")?,
     }
-    if key == 0 {
-        println!(rt; "key       none")?;
-    } else {
-        println!(rt; "key       {key} bytes")?;
-    }
-    println!(rt; "pages     {page} bytes each")?;
-    println!(rt; "tree      {fanout} nodes to a parent, at most {depth} layers")?;
+    println!(rt; "pages     {} bytes each", label.page)?;
+    println!(rt;
+        "tree      {} nodes to a parent, at most {} layers",
+        label.fanout, label.depth
+    )?;
     println!(rt; "salt      {salt}")?;
     Ok(())
 }
 
-// Says what a line of a label should be.
-fn explain(rt: &HostRuntime, line: usize) -> Result<(), Failure> {
+// What a line of a label should be.
+fn rule(line: usize) -> &'static str {
     match line {
-        1 => eprintln!(rt; "line 1 is kind=seal")?,
-        2 => eprintln!(rt; "line 2 is variant=b or variant=s")?,
-        3 => eprintln!(rt;
-            "line 3 is digest= and a number from 1 to 64 (variant b) or 32 (variant s)"
-        )?,
-        4 => eprintln!(rt;
-            "line 4 is keybytes= and a number from 0 to 64 (variant b) or 32 (variant s)"
-        )?,
-        5 => eprintln!(rt; "line 5 is fanout= and a number from 2 to 16")?,
-        6 => eprintln!(rt; "line 6 is depth= and a number from 2 to 13")?,
-        7 => eprintln!(rt; "line 7 is page= and a number from 64 to 4096")?,
-        8 => eprintln!(rt;
-            "line 8 is salt= and 32 (variant b) or 16 (variant s) hexadecimal digits in lower case"
-        )?,
-        9 => eprintln!(rt;
-            "line 9 is layout= and 1 to 16 (variant b) or 8 (variant s) of A-Z, 0-9 and hyphen"
-        )?,
-        _ => eprintln!(rt; "a label ends with the line feed of line 9: cut off what follows it")?,
+        1 => "line 1 is kind=seal",
+        2 => "line 2 is variant=b or variant=s",
+        3 => "line 3 is digest= and a number from 1 to 64 (variant b) or 32 (variant s)",
+        4 => "line 4 is keybytes= and a number from 0 to 64 (variant b) or 32 (variant s)",
+        5 => "line 5 is fanout= and a number from 2 to 16",
+        6 => "line 6 is depth= and a number from 2 to 13",
+        7 => "line 7 is page= and a number from 64 to 4096",
+        8 =>
+            "line 8 is salt= and 32 (variant b) or 16 (variant s) hexadecimal digits in lower case",
+        9 => "line 9 is layout= and 1 to 16 (variant b) or 8 (variant s) of A-Z, 0-9 and hyphen",
+        _ => "a label ends with the line feed of line 9: cut off what follows it",
     }
-    Ok(())
 }

@@ -26,10 +26,7 @@ fn main(rt: HostRuntime) -> ExitCode {
 
 fn run(rt: &HostRuntime) -> Result<(), Failure> {
     let heap = rt.alloc();
-    let mut words = Vec::new(heap);
-    for word in env::args(rt)?.skip(1) {
-        words.push(word)?;
-    }
+    let words: Vec<String> = env::args(rt)?.skip(1).collect(heap)?;
     match options::read(heap, &words)? {
         Command::Example => example::run(rt),
         Command::Help => help::print(rt),

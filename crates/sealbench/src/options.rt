@@ -1,9 +1,10 @@
 // The words of the command line.
-ghost use Rattle.std.specs.Prelude.{◌<◌, ◌≤◌, length, IfOk};
+ghost use Rattle.std.specs.Prelude.{◌≤◌, length};
 
 use crate::failure::Failure;
 use blake2::Variant;
 use std::alloc::Global;
+use std::slice::Iter;
 
 // What is to be done.
 #[derive(Drop)]
@@ -50,9 +51,17 @@ fn read_digest(heap: Global, words: &[String]) -> Result<DigestOptions, Failure>
         key: None,
         files: Vec::new(heap),
     };
-    let mut at = 0;
-    while at < words.len() {
-        at += read_one(&mut options, &words[at..])?;
+    let mut words = words.iter();
+    while let Some(word) = words.next() {
+        match word.as_str() {
+            "--variant" => options.variant = read_variant(value(&mut words)?.as_str())?,
+            "--bytes" => options.bytes = Some(read_number(value(&mut words)?.as_str())?),
+            "--key" => options.key = Some(value(&mut words)?.clone()?),
+            name if name.starts_with("--") => {
+                return Err(Failure::Usage("an option is unknown or wants a value"));
+            }
+            _ => options.files.push(word.clone()?)?,
+        }
     }
     if options.files.is_empty() {
         return Err(Failure::Usage("digest wants a file"));
@@ -60,46 +69,20 @@ fn read_digest(heap: Global, words: &[String]) -> Result<DigestOptions, Failure>
     Ok(options)
 }
 
-// Takes the first word, with its value where it is an option, and says how many words that is.
-fn read_one(options: &mut DigestOptions, words: &[String]) -> Result<usize, Failure>
-    requires { 0 < length words.now }
-    ensures { IfOk result (λ n. (0 < n) × (n ≤ length words.now)) }
+// The value of an option: the word after it.
+fn value<'a>(words: &mut Iter<'a, String>) -> Result<&'a String, Failure>
+    ensures { length words.new.rest.now ≤ length words.old.rest.now }
 {
-    match words {
-        [] => unreachable(),
-        [name, value, ..] if name.as_str() == "--variant" => {
-            options.variant = read_variant(value.as_str())?;
-            Ok(2)
-        }
-        [name, value, ..] if name.as_str() == "--bytes" => {
-            options.bytes = Some(read_number(value.as_str())?);
-            Ok(2)
-        }
-        [name, value, ..] if name.as_str() == "--key" => {
-            options.key = Some(value.clone()?);
-            Ok(2)
-        }
-        [word, ..] => {
-            if word.as_str().starts_with("--") {
-                return Err(Failure::Usage("an option is unknown or wants a value"));
-            }
-            options.files.push(word.clone()?)?;
-            Ok(1)
-        }
-    }
+    words
+        .next()
+        .ok_or(Failure::Usage("an option is unknown or wants a value"))
 }
 
 fn read_variant(word: &str) -> Result<Variant, Failure> {
-    match word {
-        "b" => Ok(Variant::B),
-        "s" => Ok(Variant::S),
-        _ => Err(Failure::Usage("--variant is b or s")),
-    }
+    Variant::try_from(word.as_bytes()).map_err(|_| Failure::Usage("--variant is b or s"))
 }
 
 fn read_number(word: &str) -> Result<usize, Failure> {
-    match word.parse::<usize>() {
-        Ok(n) => Ok(n),
-        Err(_) => Err(Failure::Usage("--bytes wants a number")),
-    }
+    word.parse::<usize>()
+        .map_err(|_| Failure::Usage("--bytes wants a number"))
 }
