@@ -2,7 +2,7 @@
 use crate::vector::report;
 use blake2::Word;
 use byte_strings::hex_string;
-use std::alloc::{AllocError, Global};
+use std::alloc::Global;
 use stream::Stream;
 
 const RESULT_B: &str = "c23a7800d98123bd10f506c61e29da5603d763b8bbad2e737f5e765a7bccd475";
@@ -11,47 +11,43 @@ const RESULT_S: &str = "6a411f08ce25adcdfb02aba641451cec53c598b24f4fc787fbdc8879
 
 // Prints both results with the verdict, and says whether both are right.
 pub(crate) fn try_both(rt: &HostRuntime) -> anyhow::Result<bool> {
-    let heap = rt.alloc();
-    let mut b = [0u8; 32];
-    let mut s = [0u8; 32];
-    run(
-        heap,
-        Stream::<u64>::begin(32, &[]),
+    let b = try_one::<u64>(
+        rt,
+        "b",
         &[20, 32, 48, 64],
         &[0, 3, 128, 129, 255, 1024],
-        &mut b,
+        RESULT_B,
     )?;
-    run(
-        heap,
-        Stream::<u32>::begin(32, &[]),
+    let s = try_one::<u32>(
+        rt,
+        "s",
         &[16, 20, 28, 32],
         &[0, 3, 64, 65, 255, 1024],
-        &mut s,
+        RESULT_S,
     )?;
-    let b_text = hex_string(heap, &b)?;
-    let s_text = hex_string(heap, &s)?;
-    let b_line = format!(in heap; "b, self-test: {b_text}")?;
-    let s_line = format!(in heap; "s, self-test: {s_text}")?;
-    let b_right = report(rt, b_line.as_str(), b_text.as_str() == RESULT_B)?;
-    let s_right = report(rt, s_line.as_str(), s_text.as_str() == RESULT_S)?;
-    Ok(b_right && s_right)
+    Ok(b && s)
 }
 
-// Digests every input at every digest length, and writes the digest of all these digests.
-fn run<W: Word>(
-    heap: Global,
-    mut all: Stream<W>,
+// Digests every input at every digest length, and then all these digests.
+fn try_one<W: Word>(
+    rt: &HostRuntime,
+    variant: &str,
     lengths: &[usize],
     inputs: &[usize],
-    out: &mut [u8],
-) -> Result<(), AllocError> {
+    published: &str,
+) -> anyhow::Result<bool> {
+    let heap = rt.alloc();
+    let mut all = Stream::<W>::begin(32, &[]);
     for length in lengths {
         for size in inputs {
             add_pair(heap, &mut all, *length, *size)?;
         }
     }
-    let _ = all.finish(out);
-    Ok(())
+    let mut digest = [0u8; 32];
+    all.finish(&mut digest)?;
+    let text = hex_string(heap, &digest)?;
+    let line = format!(in heap; "{variant}, self-test: {text}")?;
+    report(rt, line.as_str(), text.as_str() == published)
 }
 
 // Adds two digests of an input: without a key, and with a key as long as the digest.
@@ -60,16 +56,16 @@ fn add_pair<W: Word>(
     all: &mut Stream<W>,
     length: usize,
     size: usize,
-) -> Result<(), AllocError> {
+) -> anyhow::Result<()> {
     let mut input = vec![in heap; 0u8; size]?;
     let mut key = vec![in heap; 0u8; length]?;
     let mut digest = vec![in heap; 0u8; length]?;
     fill(&mut input);
     fill(&mut key);
-    let _ = stream::digest::<W>(length, &[], &input, &mut digest);
-    let _ = all.add(&digest);
-    let _ = stream::digest::<W>(length, &key, &input, &mut digest);
-    let _ = all.add(&digest);
+    stream::digest::<W>(length, &[], &input, &mut digest)?;
+    all.add(&digest)?;
+    stream::digest::<W>(length, &key, &input, &mut digest)?;
+    all.add(&digest)?;
     Ok(())
 }
 

@@ -1,5 +1,6 @@
 // One vector: VARIANT KEY INPUT DIGEST. KEY is a number of bytes, INPUT a number of bytes or the word abc; such bytes count 0, 1, 2 and so on.
 use anyhow::Context;
+use blake2::Variant;
 use byte_strings::hex_string;
 use std::alloc::{AllocError, Global};
 
@@ -18,9 +19,9 @@ pub(crate) fn try_line(rt: &HostRuntime, line: &str) -> anyhow::Result<bool> {
         counting(heap, input.parse::<usize>()?)?
     };
     let mut digest = vec![in heap; 0u8; published.len() / 2]?;
-    let answer = match variant {
-        "b" => stream::digest::<u64>(digest.len(), &key, &input, &mut digest),
-        _ => stream::digest::<u32>(digest.len(), &key, &input, &mut digest),
+    let answer = match Variant::try_from(variant.as_bytes()).unwrap_or(Variant::S) {
+        Variant::B => stream::digest::<u64>(digest.len(), &key, &input, &mut digest),
+        Variant::S => stream::digest::<u32>(digest.len(), &key, &input, &mut digest),
     };
     let text = hex_string(heap, &digest)?;
     let right = answer.is_ok() && text.as_str() == published;
@@ -41,9 +42,5 @@ pub(crate) fn report(rt: &HostRuntime, digest: &str, right: bool) -> anyhow::Res
 
 // The bytes 0, 1, 2 and so on, from 0 again after 255.
 fn counting(heap: Global, n: usize) -> Result<Vec<u8>, AllocError> {
-    let mut bytes = Vec::new(heap);
-    for i in 0..n {
-        bytes.push((i % 256) as u8)?;
-    }
-    Ok(bytes)
+    (0..n).map(|i| (i % 256) as u8).collect(heap)
 }
