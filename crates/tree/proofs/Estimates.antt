@@ -1,6 +1,6 @@
 -- That estimates suffice: a put marks at most one node in each layer, and no other call marks any.
 use Rattle.std.proofs.Common.{◌≡◌, ℕ, ◌+◌, ◌*◌, ◌≤◌, Bool, true, false, cond, List, [], ◌∷◌, ◌++◌, length, set, is_some, is_ok, Some, None, Option, refl, mul-le-mul_right, add-mul, arith}
-use Rattle.tree.specs.declared.answer.Answer.TheVariants.{Done}
+use Rattle.tree.specs.declared.answer.Reply.TheVariants.{Done}
 use Rattle.tree.specs.Calls.{Call, Open, Put, Withdraw, Step, Root, Stale, told, answer_of, state_of, next_node, open_state, put_rows, put_answer, put_state, withdraw_state, step_table, step_state, estimate_rows, estimate_answer}
 use Rattle.tree.specs.Laws.{marks_left, put_count, Suffices}
 use Rattle.tree.specs.Marks.{marks, mark_path}

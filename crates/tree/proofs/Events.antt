@@ -3,9 +3,8 @@ use Rattle.std.proofs.Common.{◌≡◌, ℕ, true, false, cond, not, ◌||◌, 
 use mathlib.Core.Bool.{or-true}
 use mathlib.Core.Path.{fun_ext}
 use Rattle.fault.specs.declared.fault.Fault.{Fault}
-use Rattle.tree.specs.declared.answer.Answer.{Answer}
-use Rattle.tree.specs.declared.answer.Answer.TheVariants.{Refused}
-use Rattle.tree.specs.Calls.{Call, Open, Put, Withdraw, Step, Root, Stale, told}
+use Rattle.tree.specs.declared.answer.Reply.{Reply}
+use Rattle.tree.specs.Calls.{Call, Put, told}
 use Rattle.tree.specs.Runs.{Making, Event, did, put_in, latest, page_after, put_beneath, works, last_worked, since_worked, any_put, is_stale}
 
 -- An event that changes no page, no mark and no digest.
@@ -14,17 +13,13 @@ pub record Quiet (e : Event) : Type 0 where
   pub no_work : (k j : ℕ) → works k j e ≡ false
 
 -- a refused call is quiet
-pub refused_quiet : (c : Call) (x : Fault) → Quiet (did c (Refused x))
+pub refused_quiet : (c : Call) (x : Fault) → Quiet (did c (Err x))
 unfolding put_in works
-refused_quiet (Open p out) x = record { no_put = refl; no_work = λ k j. refl }
 refused_quiet (Put p bytes) x = record { no_put = refl; no_work = λ k j. refl }
-refused_quiet (Withdraw p) x = record { no_put = refl; no_work = λ k j. refl }
-refused_quiet (Step work) x = record { no_put = refl; no_work = λ k j. refl }
-refused_quiet (Root out) x = record { no_put = refl; no_work = λ k j. refl }
-refused_quiet Stale x = record { no_put = refl; no_work = λ k j. refl }
+refused_quiet _ x = record { no_put = refl; no_work = λ k j. refl }
 
 -- so a call is quiet if it is where it is accepted
-pub told_quiet : {A : Type 0} (c : Call) (f : A → Answer) (r : Result A Fault) → ((x : A) → Quiet (did c (f x))) → Quiet (did c (told f r))
+pub told_quiet : {A : Type 0} (c : Call) (f : A → Reply) (r : Result A Fault) → ((x : A) → Quiet (did c (Ok (f x)))) → Quiet (did c (told f r))
 unfolding told
 told_quiet c f (Ok x) h = h x
 told_quiet c f (Err x) h = refused_quiet c x

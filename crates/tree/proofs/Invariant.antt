@@ -1,5 +1,5 @@
 -- What holds all through a run.
-use Rattle.std.proofs.Common.{◌≡◌, ℕ, ◌+◌, ◌*◌, ◌<◌, ◌≤◌, true, false, cond, ◌&&◌, eqb, ◌≢◌, List, [], ◌∷◌, ◌++◌, map, length, get_or, take, drop, set, is_ok, Some, None, Option, Result, sym, refl, ap, ◌∙◌, subst, arith, length-append, length-set, get_or-set_other, get_or-set_same, eq-eqb, ne_eqb, eqb-true, leb-false}
+use Rattle.std.proofs.Common.{◌≡◌, ℕ, ◌+◌, ◌*◌, ◌<◌, ◌≤◌, true, false, cond, ◌&&◌, eqb, ◌≢◌, List, [], ◌∷◌, ◌++◌, map, length, get_or, take, drop, set, is_ok, Some, None, Ok, Err, Option, Result, sym, refl, ap, ◌∙◌, subst, arith, length-append, length-set, get_or-set_other, get_or-set_same, eq-eqb, ne_eqb, eqb-true, leb-false}
 use mathlib.Core.Bool.{and-false}
 use mathlib.Core.Path.{fun_ext}
 use native.Mathlib.Decide.{ℕ_discrete}
@@ -11,8 +11,8 @@ use Rattle.fault.specs.Faults.{Row, unless}
 use Rattle.fault.specs.declared.fault.Fault.{Fault}
 use Rattle.image.specs.Pages.{Page, absent, count}
 use Rattle.nodehash.specs.Hashing.{digest_length, fanout_of}
-use Rattle.tree.specs.declared.answer.Answer.{Answer}
-use Rattle.tree.specs.declared.answer.Answer.TheVariants.{Refused, Done, Stepped, RootRead, Counted}
+use Rattle.tree.specs.declared.answer.Reply.{Reply}
+use Rattle.tree.specs.declared.answer.Reply.TheVariants.{Done, Stepped, RootRead, Counted}
 use Rattle.tree.specs.Calls.{Call, Open, Put, Withdraw, Step, Root, Stale, told, answer_of, state_of, next_node, input_of, work_on, step_table}
 use Rattle.tree.specs.Calls.{open_rows, open_answer, open_state, put_rows, put_answer, put_state, withdraw_rows, withdraw_answer, withdraw_state, work_rows, page_rows, step_answer, step_state}
 use Rattle.tree.specs.Laws.{digest_after, held_from}
@@ -70,17 +70,17 @@ module _ (m : Making) where
       }
 
   -- a call that is refused leaves the invariant, so it has to be shown of calls that no row stops
-  inv_rows : {A : Type 0} (s : State) (es : List Event) (c : Call) (rows : List Row) (x : A) (f : A → Answer) (new : State) → Inv s es
-      → (Passed rows → Inv new (did c (f x) ∷ es))
+  inv_rows : {A : Type 0} (s : State) (es : List Event) (c : Call) (rows : List Row) (x : A) (f : A → Reply) (new : State) → Inv s es
+      → (Passed rows → Inv new (did c (Ok (f x)) ∷ es))
       → Inv (cond (is_ok (unless rows x)) new s) (did c (told f (unless rows x)) ∷ es)
   unfolding told
   inv_rows s es c rows x f new i h =
       by_rows (λ r. Inv (cond (is_ok r) new s) (did c (told f r) ∷ es)) rows x
-      (λ e. inv_quiet s es (did c (Refused e)) s.opened i (refused_quiet c e) i.open_in)
+      (λ e. inv_quiet s es (did c (Err e)) s.opened i (refused_quiet c e) i.open_in)
       h
 
   -- and calls that change nothing leave it
-  inv_told : {A : Type 0} (s : State) (es : List Event) (c : Call) (f : A → Answer) → Inv s es → ((x : A) → Quiet (did c (f x)))
+  inv_told : {A : Type 0} (s : State) (es : List Event) (c : Call) (f : A → Reply) → Inv s es → ((x : A) → Quiet (did c (Ok (f x))))
       → (r : Result A Fault) → Inv s (did c (told f r) ∷ es)
   inv_told s es c f i q r = inv_quiet s es (did c (told f r)) s.opened i (told_quiet c f r q) i.open_in
 
@@ -104,7 +104,7 @@ module _ (m : Making) where
 
   module _ (s : State) (es : List Event) (p : ℕ) (bytes : List ℕ) (i : Inv s es) (there : p < count m.image) where
     abbrev put_event : Event
-    put_event = did (Put p bytes) Done
+    put_event = did (Put p bytes) (Ok Done)
 
     put_page : (q : ℕ) → get_or (set s.pages p bytes) q [] ≡ page_after m (put_event ∷ es) q
     unfolding page_bytes page_after put_in latest
@@ -252,7 +252,7 @@ module _ (m : Making) where
 
     module _ (work : List ℕ) where
       abbrev step_event : Event
-      step_event = did (Step work) (Stepped (work_on (seal s) (Some (k₀, j₀))))
+      step_event = did (Step work) (Ok (Stepped (work_on (seal s) (Some (k₀, j₀)))))
 
       step-works : works k₀ j₀ step_event ≡ true
       unfolding works work_on
@@ -308,7 +308,7 @@ module _ (m : Making) where
           }
 
   inv_stepped : (s : State) (es : List Event) (work : List ℕ) → Inv s es → (o : Option (ℕ × ℕ)) → next_node (seal s) ≡ o
-      → Inv (record { pages = s.pages; opened = s.opened; table = step_table (seal s) o }) (did (Step work) (Stepped (work_on (seal s) o)) ∷ es)
+      → Inv (record { pages = s.pages; opened = s.opened; table = step_table (seal s) o }) (did (Step work) (Ok (Stepped (work_on (seal s) o))) ∷ es)
   unfolding step_table work_on put_in works
   inv_stepped s es work i (Some v) e = inv_worked s es i v.0 v.1 (next_some (shape_in m) s.table v e) work
   inv_stepped s es work i None e =

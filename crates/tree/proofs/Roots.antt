@@ -3,68 +3,30 @@ use Rattle.std.proofs.Common.{◌≡◌, ℕ, cond, ◌≢◌, List, ◌∷◌, 
 use borrow.Author.Tests.{not-false}
 use Rattle.fault.specs.declared.fault.Fault.{Fault}
 use Rattle.image.specs.Pages.{count}
-use Rattle.tree.specs.declared.answer.Answer.{Answer}
-use Rattle.tree.specs.declared.answer.Answer.TheVariants.{Refused, Opened, Done, Stepped, RootRead, Counted}
+use Rattle.tree.specs.declared.answer.Reply.{Reply}
+use Rattle.tree.specs.declared.answer.Reply.TheVariants.{Opened, Done, Stepped, RootRead, Counted}
 use Rattle.tree.specs.Calls.{Call, Open, Put, Withdraw, Step, Root, Stale, told, answer_of, buffer_of, state_of, root_rows, root_answer, root_out, stale_rows, stale_answer}
 use Rattle.tree.specs.Laws.{root_after, RootTrue, CountTrue}
 use Rattle.tree.specs.Marks.{marks}
 use Rattle.tree.specs.Runs.{Making, Accepted, shape_in, state_after, Event, did, events, put_in}
 use Rattle.tree.specs.Shapes.{root_layer, layer_count, Node}
 use Rattle.tree.specs.Trees.{tree_root}
-use Rattle.tree.specs.Views.{State, View, digest_at}
+use Rattle.tree.specs.Views.{State, digest_at}
 use Rattle.tree.proofs.Events.{pages_same}
 use Rattle.tree.proofs.Invariant.{seal, Inv, inv_run, digest_true, some_pages}
 use Rattle.tree.proofs.Marks.{marks_zero}
 use Rattle.tree.proofs.Rows.{passed_from_ok, answer_from_ok}
 use Rattle.tree.proofs.Shapes.{layer_some}
 
--- which answer it is, and which one a call gives where it is not refused
-abbrev kind : Answer → ℕ
-kind (Refused e) = 0
-kind (Opened p) = 1
-kind Done = 2
-kind (Stepped w) = 3
-kind RootRead = 4
-kind (Counted n) = 5
-
-abbrev kind_of : Call → ℕ
-kind_of (Open p out) = 1
-kind_of (Put p bytes) = 2
-kind_of (Withdraw p) = 2
-kind_of (Step work) = 3
-kind_of (Root out) = 4
-kind_of Stale = 5
-
-told-kind : {A : Type 0} (f : A → Answer) (n : ℕ) → ((x : A) → kind (f x) ≡ n) → (r : Result A Fault) → kind (told f r) ≢ 0 → kind (told f r) ≡ n
+-- what gave this reply was not refused
+told_ok : {A : Type 0} (f : A → Reply) (r : Result A Fault) (y : Reply) → told f r ≡ Ok y → (x : A) × (r ≡ Ok x) × (f x ≡ y)
 unfolding told
-told-kind f n h (Ok x) ne = h x
-told-kind f n h (Err e) ne = absurd (ne refl)
+told_ok f (Ok x) y e = (x, refl, cc)
+told_ok f (Err x) y e = absurd (cc)
 
-answer_kind : (v : View) (c : Call) → kind (answer_of v c) ≢ 0 → kind (answer_of v c) ≡ kind_of c
-unfolding answer_of
-answer_kind v (Open p out) ne = told-kind Opened 1 (λ x. refl) _ ne
-answer_kind v (Put p bytes) ne = told-kind (λ _. Done) 2 (λ x. refl) _ ne
-answer_kind v (Withdraw p) ne = told-kind (λ _. Done) 2 (λ x. refl) _ ne
-answer_kind v (Step work) ne = told-kind Stepped 3 (λ x. refl) _ ne
-answer_kind v (Root out) ne = told-kind (λ _. RootRead) 4 (λ x. refl) _ ne
-answer_kind v Stale ne = told-kind Counted 5 (λ x. refl) _ ne
-
--- only a root reading gives out a root, and only a stale count counts
-by_kind : (P : Call → Type 0) (v : View) (a : Answer) → kind a ≢ 0 → ((c : Call) → kind_of c ≡ kind a → answer_of v c ≡ a → P c) → (c : Call) → answer_of v c ≡ a → P c
-by_kind P v a ne h c e =
-    let z : kind (answer_of v c) ≡ kind a = ap kind e in
-    let k = answer_kind v c (omega arith) in
-    h c (omega arith) e
-
-root_ok : (r : Result (Unit {0}) Fault) → told (λ _. RootRead) r ≡ RootRead → r ≡ Ok tt
-unfolding told
-root_ok (Ok x) e = refl
-root_ok (Err x) e = cc
-
-count_ok : (r : Result ℕ Fault) (n : ℕ) → told Counted r ≡ Counted n → r ≡ Ok n
-unfolding told
-count_ok (Ok x) n e = cc
-count_ok (Err x) n e = cc
+-- and it is one of the replies that the call can give
+told_other : {A : Type 0} (f : A → Reply) (r : Result A Fault) (y : Reply) → ((x : A) → f x ≢ y) → told f r ≢ Ok y
+told_other f r y ne e = let t = told_ok f r y e in ne t.0 t.2
 
 module _ (m : Making) (acc : Accepted m) where
   root_node : Node (shape_in m) (root_layer (shape_in m)) 0
@@ -80,37 +42,34 @@ module _ (m : Making) (acc : Accepted m) where
     root_held e = digest_true m s es i _ _ root_node (marks_zero (shape_in m) s.table e _ _ root_node)
 
     -- a root that is given out is the tree's
-    root_given : (out : List ℕ) → answer_of (seal m s) (Root out) ≡ RootRead
+    root_given : (out : List ℕ) → answer_of (seal m s) (Root out) ≡ Ok RootRead
         → buffer_of (seal m s) (Root out) ≡ root_after m (did (Root out) (answer_of (seal m s) (Root out)) ∷ es)
     unfolding answer_of buffer_of root_answer root_out put_in
     root_given out e =
-        let ok : root_answer (seal m s) (length out) ≡ Ok tt = root_ok _ e in
+        let ok : root_answer (seal m s) (length out) ≡ Ok tt = (told_ok (λ _. RootRead) _ RootRead e).1 in
         let z : marks (shape_in m) s.table ≡ 0 = eqb-true _ _ (not-false _ (passed_from_ok (root_rows (seal m s) (length out)) tt tt ok).1.1.1.1.0) in
         ap (λ r. cond (is_ok r) (digest_at (seal m s) (root_layer (shape_in m)) 0) out) ok
         ∙ root_held z ∙ ap (tree_root m.hash (count m.image)) (sym (pages_same m _ es refl))
 
+  -- and only a root reading gives one out
   pub root_true : (calls : List Call) → RootTrue m calls
-  unfolding events
-  root_true calls = by_kind _ (seal m (state_after m calls)) RootRead (omega arith) go
-    where
-      go : (c : Call) → kind_of c ≡ 4 → answer_of (seal m (state_after m calls)) c ≡ RootRead
-          → buffer_of (seal m (state_after m calls)) c ≡ root_after m (did c (answer_of (seal m (state_after m calls)) c) ∷ events m calls)
-      go (Open p out) k e = absurd (omega arith)
-      go (Put p bytes) k e = absurd (omega arith)
-      go (Withdraw p) k e = absurd (omega arith)
-      go (Step work) k e = absurd (omega arith)
-      go (Root out) k e = root_given (state_after m calls) (events m calls) (inv_run m acc calls) out e
-      go Stale k e = absurd (omega arith)
+  unfolding events answer_of
+  root_true calls (Open p out) e = absurd (told_other Opened _ RootRead (λ x q. cc) e)
+  root_true calls (Put p bytes) e = absurd (told_other (λ _. Done) _ RootRead (λ x q. cc) e)
+  root_true calls (Withdraw p) e = absurd (told_other (λ _. Done) _ RootRead (λ x q. cc) e)
+  root_true calls (Step work) e = absurd (told_other Stepped _ RootRead (λ x q. cc) e)
+  root_true calls (Root out) e = root_given (state_after m calls) (events m calls) (inv_run m acc calls) out e
+  root_true calls Stale e = absurd (told_other Counted _ RootRead (λ x q. cc) e)
 
--- a stale count counts the marks
+-- a stale count counts the marks, and no other call counts
 pub count_true : (m : Making) (calls : List Call) → CountTrue m calls
-unfolding state_after
-count_true m calls c n = by_kind (λ c. n ≡ marks (shape_in m) (state_of (seal m (state_after m calls)) c).table) (seal m (state_after m calls)) (Counted n) (omega arith) go c
-  where
-    go : (c : Call) → kind_of c ≡ 5 → answer_of (seal m (state_after m calls)) c ≡ Counted n → n ≡ marks (shape_in m) (state_of (seal m (state_after m calls)) c).table
-    go (Open p out) k e = absurd (omega arith)
-    go (Put p bytes) k e = absurd (omega arith)
-    go (Withdraw p) k e = absurd (omega arith)
-    go (Step work) k e = absurd (omega arith)
-    go (Root out) k e = absurd (omega arith)
-    go Stale k e = unfold answer_of state_of stale_answer in sym (answer_from_ok (stale_rows (seal m (state_after m calls))) _ n (count_ok _ n e))
+unfolding answer_of state_of stale_answer state_after
+count_true m calls (Open p out) n e = absurd (told_other Opened _ (Counted n) (λ x q. cc) e)
+count_true m calls (Put p bytes) n e = absurd (told_other (λ _. Done) _ (Counted n) (λ x q. cc) e)
+count_true m calls (Withdraw p) n e = absurd (told_other (λ _. Done) _ (Counted n) (λ x q. cc) e)
+count_true m calls (Step work) n e = absurd (told_other Stepped _ (Counted n) (λ x q. cc) e)
+count_true m calls (Root out) n e = absurd (told_other (λ _. RootRead) _ (Counted n) (λ x q. cc) e)
+count_true m calls Stale n e =
+    let t = told_ok Counted _ (Counted n) e in
+    let a = answer_from_ok (stale_rows (seal m (state_after m calls))) _ t.0 t.1 in
+    cc

@@ -1,16 +1,16 @@
 -- Steps alone, from a run that leaves no page open.
-use Rattle.std.proofs.Common.{◌≡◌, ℕ, ◌+◌, ◌<◌, ◌≤◌, Bool, true, false, cond, not, ◌&&◌, eqb, List, [], ◌∷◌, ◌++◌, length, is_some, is_ok, Some, None, Ok, Option, sym, refl, ap, ◌∙◌, subst, arith, le-ltb, eq-eqb, ne_eqb}
+use Rattle.std.proofs.Common.{◌≡◌, ℕ, ◌+◌, ◌<◌, ◌≤◌, Bool, true, false, cond, not, ◌&&◌, eqb, List, [], ◌∷◌, ◌++◌, length, is_some, is_ok, Some, None, Ok, Err, Option, sym, refl, ap, ◌∙◌, subst, arith, le-ltb, eq-eqb, ne_eqb}
 use mathlib.Core.Bool.{and-false}
 use native.Mathlib.Decide.{ℕ_discrete}
 use Rattle.fault.specs.Faults.{on, unless, fault}
 use Rattle.fault.specs.declared.refusal.Refusal.TheVariants.{NodeMarked}
 use Rattle.image.specs.Pages.{count, page_at}
 use Rattle.nodehash.specs.Hashing.{digest_length}
-use Rattle.tree.specs.declared.answer.Answer.TheVariants.{Refused, Stepped, RootRead}
+use Rattle.tree.specs.declared.answer.Reply.TheVariants.{Stepped, RootRead}
 use Rattle.tree.specs.Calls.{Call, Open, Put, Withdraw, Step, Root, Stale, told, answer_of, buffer_of, state_of, next_node, is_unreadable, work_rows, page_rows, work_on, step_table, step_answer, step_state, root_rows, root_answer, root_out}
 use Rattle.tree.specs.Laws.{IsStep, StepsAlone, reported, root_after, blocks_after, marks_left, Clear, StepsAccepted, RootWaits, RootComes, BlocksSum}
 use Rattle.tree.specs.Marks.{marks, short}
-use Rattle.tree.specs.Runs.{Making, Accepted, shape_in, base_of, state_after, view_after, answer_to, Event, events, accepted, put_in, page_after, blocks_in}
+use Rattle.tree.specs.Runs.{Making, Accepted, shape_in, base_of, state_after, view_after, answer_to, Event, events, put_in, page_after, blocks_in}
 use Rattle.tree.specs.Shapes.{layer_size, root_layer}
 use Rattle.tree.specs.Trees.{tree_blocks}
 use Rattle.tree.specs.Views.{State, digest_at}
@@ -44,7 +44,7 @@ module _ (m : Making) (s : State) (es : List Event) (i : Inv m s es) where
       (step_unmarked m s es i k₀ j₀ ready) (step-marked_other m s es i k₀ j₀ ready)
 
   step-blocks : (k₀ j₀ : ℕ) → Ready (shape_in m) s.table k₀ j₀
-      → blocks_in (Stepped (work_on (seal m s) (Some (k₀, j₀)))) ≡ blocks_after m es k₀ j₀
+      → blocks_in (Ok (Stepped (work_on (seal m s) (Some (k₀, j₀))))) ≡ blocks_after m es k₀ j₀
   unfolding work_on tree_blocks
   step-blocks k₀ j₀ ready = ap (λ x. m.hash.blocks k₀ (length x)) (input_true m s es i k₀ j₀ ready)
 
@@ -76,7 +76,7 @@ module _ (m : Making) (s : State) (es : List Event) (i : Inv m s es) where
           ok_from_passed (work_rows (seal m s) (length work) ++ page_rows (seal m s)) _
           (not_void, (not_short, (ap not (eq-eqb (length work) 4096 fits), (next_readable _ refl, tt))))
 
-      pub step_answer_lem : answer_of (seal m s) (Step work) ≡ Stepped (work_on (seal m s) (next_node (seal m s)))
+      pub step_answer_lem : answer_of (seal m s) (Step work) ≡ Ok (Stepped (work_on (seal m s) (next_node (seal m s))))
       unfolding answer_of told
       step_answer_lem = ap (told Stepped) step_ok
 
@@ -99,7 +99,7 @@ module _ (m : Making) (s : State) (es : List Event) (i : Inv m s es) where
           go : (o : Option (ℕ × ℕ)) → next_node (seal m s) ≡ o → Lowered
           go (Some v) e =
               let r = next_some (shape_in m) s.table v e in
-              let a : answer_of (seal m s) (Step work) ≡ Stepped (work_on (seal m s) (Some v)) = step_answer_lem ∙ ap (λ o. Stepped (work_on (seal m s) o)) e in
+              let a : answer_of (seal m s) (Step work) ≡ Ok (Stepped (work_on (seal m s) (Some v))) = step_answer_lem ∙ ap (λ (o : Option (ℕ × ℕ)). Ok (Stepped (work_on (seal m s) o))) e in
               let b : (state_of (seal m s) (Step work)).table ≡ step_table (seal m s) (Some v) = ap (λ x. x.table) step_state_lem ∙ ap (step_table (seal m s)) e in
               record {
                 marks-less = rw b (step-weighed v.0 v.1 r (λ k j. 1));
@@ -119,12 +119,12 @@ module _ (m : Making) (s : State) (es : List Event) (i : Inv m s es) where
           (not_void, (not_short, (ap not (eq-eqb (length out) (digest_length m.hash) fits), (ap is_some closed, tt))))
           ∙ ap (λ x. unless (on (not x) NodeMarked 0 ∷ []) tt) e
 
-      root_refused : 0 < marks (shape_in m) s.table → answer_of (seal m s) (Root out) ≡ Refused (fault NodeMarked 0)
+      root_refused : 0 < marks (shape_in m) s.table → answer_of (seal m s) (Root out) ≡ Err (fault NodeMarked 0)
       unfolding answer_of told
       root_refused some = ap (told (λ _. RootRead)) (root_asks false (ne_eqb (marks (shape_in m) s.table) 0 (omega arith)))
 
       root_read : marks (shape_in m) s.table ≡ 0
-          → (answer_of (seal m s) (Root out) ≡ RootRead) × (buffer_of (seal m s) (Root out) ≡ root_after m es)
+          → (answer_of (seal m s) (Root out) ≡ Ok RootRead) × (buffer_of (seal m s) (Root out) ≡ root_after m es)
       unfolding answer_of told buffer_of root_out
       root_read e =
           let r = root_asks true (eq-eqb (marks (shape_in m) s.table) 0 e) in (
@@ -173,7 +173,7 @@ module _ (m : Making) (acc : Accepted m) (calls : List Call) (clear : Clear m ca
 
   pub steps_accepted : StepsAccepted m calls
   steps_accepted more h =
-      by_step (λ c. accepted (answer_to m (more ++ calls) c) ≡ true)
+      by_step (λ c. is_ok (answer_to m (more ++ calls) c) ≡ true)
       (λ work fits. rw (step_answer_lem m _ _ (inv_at more) acc clear.readable work fits))
 
   pub root_waits : RootWaits m calls

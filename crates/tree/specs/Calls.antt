@@ -5,8 +5,8 @@ use Rattle.fault.specs.declared.fault.Fault.{Fault}
 use Rattle.fault.specs.declared.refusal.Refusal.TheVariants.{PageBuffer, PageUnreadable, TableLength, SealVoid, WorkBuffer, PageOpen, TicketPage, RootWhileOpen, NodeMarked, RootBuffer, PageList}
 use Rattle.image.specs.Answers.{write_rows}
 use Rattle.nodehash.specs.Hashing.{digest_length}
-use Rattle.tree.specs.declared.answer.Answer.{Answer}
-use Rattle.tree.specs.declared.answer.Answer.TheVariants.{Refused, Opened, Done, Stepped, RootRead, Counted}
+use Rattle.tree.specs.declared.answer.Reply.{Reply}
+use Rattle.tree.specs.declared.answer.Reply.TheVariants.{Opened, Done, Stepped, RootRead, Counted}
 use Rattle.tree.specs.declared.answer.Worked.{Worked}
 use Rattle.tree.specs.Marks.{marks, mark_path, next, short}
 use Rattle.tree.specs.Records.{store}
@@ -175,10 +175,14 @@ pub data Call : Type 0 where
   Root : List ℕ → Call  -- the output
   Stale : Call
 
--- an answer as one of those that any call may give
-unfoldable pub told : {A : Type 0} → (A → Answer) → Result A Fault → Answer
-told f (Ok x) = f x
-told f (Err e) = Refused e
+-- The answer of any call: what it gives, or the fault that it is refused with.
+abbrev pub Answer : Type 0
+Answer = Result Reply Fault
+
+-- the answer of one call as that of any
+unfoldable pub told : {A : Type 0} → (A → Reply) → Result A Fault → Answer
+told f (Ok x) = Ok (f x)
+told f (Err e) = Err e
 
 unfoldable pub answer_of : View → Call → Answer
 answer_of v (Open p out) = told Opened (open_answer v p (length out))

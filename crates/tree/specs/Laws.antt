@@ -1,26 +1,22 @@
 -- What holds of a run: its law, that estimates suffice, and that the layers of a tree end at its root.
-use Rattle.std.specs.Prelude.{◌≡◌, ℕ, ◌+◌, ◌<◌, ◌≤◌, Bool, true, false, cond, List, [], ◌∷◌, ◌++◌, length, is_some, Some, None, Ok, Option, ◌≢◌}
+use Rattle.std.specs.Prelude.{◌≡◌, ℕ, ◌+◌, ◌<◌, ◌≤◌, Bool, true, false, cond, List, [], ◌∷◌, ◌++◌, length, is_some, is_ok, Some, None, Ok, Err, Option, ◌≢◌}
 use Rattle.fault.specs.Faults.{fault}
 use Rattle.fault.specs.declared.refusal.Refusal.TheVariants.{NodeMarked}
 use Rattle.image.specs.Pages.{count, page_at}
 use Rattle.nodehash.specs.Hashing.{digest_length, fanout_of}
-use Rattle.tree.specs.declared.answer.Answer.TheVariants.{Refused, RootRead, Counted}
+use Rattle.tree.specs.declared.answer.Reply.TheVariants.{RootRead, Counted}
 use Rattle.tree.specs.declared.shape.Shape.{Shape}
-use Rattle.tree.specs.Calls.{Call, Open, Put, Withdraw, Step, Root, Stale, estimate_answer}
+use Rattle.tree.specs.Calls.{Call, Step, Root, estimate_answer}
 use Rattle.tree.specs.Marks.{marked_at, held_at, marks}
 use Rattle.tree.specs.Records.{stored, zeros}
-use Rattle.tree.specs.Runs.{Making, Event, did, shape_in, state_after, view_after, answer_to, buffer_after, events, accepted, put_in, page_after, last_worked, is_stale, blocks_in}
+use Rattle.tree.specs.Runs.{Making, Event, did, shape_in, state_after, view_after, answer_to, buffer_after, events, put_in, page_after, last_worked, is_stale, blocks_in}
 use Rattle.tree.specs.Shapes.{Node, layer_size, layer_count, root_layer, over_nodes}
 use Rattle.tree.specs.Trees.{tree, tree_blocks, tree_root}
 
 -- calls that are steps alone, each with a work buffer of 4,096 bytes
 abbrev pub IsStep : Call → Type 0
 IsStep (Step work) = length work ≡ 4096
-IsStep (Open p out) = ⊥
-IsStep (Put p bytes) = ⊥
-IsStep (Withdraw p) = ⊥
-IsStep (Root out) = ⊥
-IsStep Stale = ⊥
+IsStep _ = ⊥
 
 abbrev pub StepsAlone : List Call → Type 0
 StepsAlone [] = Unit {0}
@@ -76,11 +72,11 @@ module _ (m : Making) (calls : List Call) where
 
   -- A root that a further call gives out is the root of the tree of the image as it then is.
   abbrev pub RootTrue : Type 0
-  RootTrue = (c : Call) → answer_to m calls c ≡ RootRead → buffer_after m calls c ≡ root_after m (events m (c ∷ calls))
+  RootTrue = (c : Call) → answer_to m calls c ≡ Ok RootRead → buffer_after m calls c ≡ root_after m (events m (c ∷ calls))
 
   -- A further stale count that is accepted answers how many nodes are marked.
   abbrev pub CountTrue : Type 0
-  CountTrue = (c : Call) (n : ℕ) → answer_to m calls c ≡ Counted n → n ≡ marks (shape_in m) (state_after m (c ∷ calls)).table
+  CountTrue = (c : Call) (n : ℕ) → answer_to m calls c ≡ Ok (Counted n) → n ≡ marks (shape_in m) (state_after m (c ∷ calls)).table
 
   -- All pages are readable and none is open. Let steps alone follow.
   pub record Clear : Type 0 where
@@ -89,21 +85,21 @@ module _ (m : Making) (calls : List Call) where
 
   -- None of them is refused.
   abbrev pub StepsAccepted : Type 0
-  StepsAccepted = (more : List Call) → StepsAlone more → (c : Call) → IsStep c → accepted (answer_to m (more ++ calls) c) ≡ true
+  StepsAccepted = (more : List Call) → StepsAlone more → (c : Call) → IsStep c → is_ok (answer_to m (more ++ calls) c) ≡ true
 
   -- After fewer steps than nodes are marked, a root reading gets 51.
   abbrev pub RootWaits : Type 0
   RootWaits =
       (more : List Call) → StepsAlone more → length more < marks_left
       → (out : List ℕ) → length out ≡ digest_length m.hash
-      → answer_to m (more ++ calls) (Root out) ≡ Refused (fault NodeMarked 0)
+      → answer_to m (more ++ calls) (Root out) ≡ Err (fault NodeMarked 0)
 
   -- After as many it gives the root.
   abbrev pub RootComes : Type 0
   RootComes =
       (more : List Call) → StepsAlone more → length more ≡ marks_left
       → (out : List ℕ) → length out ≡ digest_length m.hash
-      → (answer_to m (more ++ calls) (Root out) ≡ RootRead)
+      → (answer_to m (more ++ calls) (Root out) ≡ Ok RootRead)
       × (buffer_after m (more ++ calls) (Root out) ≡ root_after m (events m (more ++ calls)))
 
   -- Their reported blocks sum to the blocks that the tree gives the nodes that were marked.

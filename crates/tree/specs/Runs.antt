@@ -1,14 +1,13 @@
 -- Runs: the making of a seal and then calls, in any order and number; and what happened in a run.
-use Rattle.std.specs.Prelude.{◌≡◌, ℕ, ◌*◌, Bool, true, false, cond, not, ◌&&◌, ◌||◌, List, [], ◌∷◌, ◌++◌, map, drop, is_some, is_ok, Some, None, Ok, Option, Result, ◌==◌, nat_lt}
+use Rattle.std.specs.Prelude.{◌≡◌, ℕ, ◌*◌, Bool, false, cond, not, ◌&&◌, ◌||◌, List, [], ◌∷◌, ◌++◌, map, drop, is_some, is_ok, Some, None, Ok, Option, Result, ◌==◌, nat_lt}
 use Rattle.fault.specs.Faults.{Row, on, unless}
 use Rattle.fault.specs.declared.fault.Fault.{Fault}
 use Rattle.fault.specs.declared.refusal.Refusal.TheVariants.{HashUnfit, PageLength, NoPages, DepthLimit, TableLength}
 use Rattle.image.specs.Pages.{Page, Pages, count, page_at}
 use Rattle.nodehash.specs.Hashing.{Hashing, depth_limit, page_length}
-use Rattle.tree.specs.declared.answer.Answer.{Answer}
-use Rattle.tree.specs.declared.answer.Answer.TheVariants.{Refused, Opened, Done, Stepped, RootRead, Counted}
+use Rattle.tree.specs.declared.answer.Reply.TheVariants.{Stepped}
 use Rattle.tree.specs.declared.shape.Shape.{Shape}
-use Rattle.tree.specs.Calls.{Call, Open, Put, Withdraw, Step, Root, Stale, answer_of, buffer_of, state_of}
+use Rattle.tree.specs.Calls.{Answer, Call, Put, answer_of, buffer_of, state_of}
 use Rattle.tree.specs.Marks.{short}
 use Rattle.tree.specs.Records.{fresh}
 use Rattle.tree.specs.Shapes.{layer_count, node_count, beneath}
@@ -87,23 +86,10 @@ events m (c ∷ calls) = did c (answer_to m calls c) ∷ events m calls
 
 -- THE WORDS OF THE LAW, over what happened alone
 
--- a call was not refused
-abbrev pub accepted : Answer → Bool
-accepted (Refused x) = false
-accepted (Opened p) = true
-accepted Done = true
-accepted (Stepped w) = true
-accepted RootRead = true
-accepted (Counted n) = true
-
 -- the page and the bytes of an accepted put
 unfoldable pub put_in : Event → Option (ℕ × List ℕ)
-put_in (did (Put p bytes) a) = cond (accepted a) (Some (p, bytes)) None
-put_in (did (Open p out) a) = None
-put_in (did (Withdraw p) a) = None
-put_in (did (Step work) a) = None
-put_in (did (Root out) a) = None
-put_in (did Stale a) = None
+put_in (did (Put p bytes) a) = cond (is_ok a) (Some (p, bytes)) None
+put_in (did _ a) = None
 
 -- the bytes of page p after a put, if there was one, from those before
 unfoldable pub latest : ℕ → Option (ℕ × List ℕ) → List ℕ → List ℕ
@@ -122,13 +108,8 @@ put_beneath f k j None = false
 
 -- a step works the node whose depth and offset it answers
 abbrev pub answers_node : ℕ → ℕ → Answer → Bool
-answers_node k j (Stepped (Some w)) = w.depth == k && w.offset == j
-answers_node k j (Stepped None) = false
-answers_node k j (Refused x) = false
-answers_node k j (Opened p) = false
-answers_node k j Done = false
-answers_node k j RootRead = false
-answers_node k j (Counted n) = false
+answers_node k j (Ok (Stepped (Some w))) = w.depth == k && w.offset == j
+answers_node k j _ = false
 
 unfoldable pub works : ℕ → ℕ → Event → Bool
 works k j (did c a) = answers_node k j a
@@ -154,10 +135,5 @@ is_stale f k j es = not (is_some (last_worked k j es)) || any_put f k j (since_w
 
 -- the blocks that an answer reports
 abbrev pub blocks_in : Answer → ℕ
-blocks_in (Stepped (Some w)) = w.blocks
-blocks_in (Stepped None) = 0
-blocks_in (Refused x) = 0
-blocks_in (Opened p) = 0
-blocks_in Done = 0
-blocks_in RootRead = 0
-blocks_in (Counted n) = 0
+blocks_in (Ok (Stepped (Some w))) = w.blocks
+blocks_in _ = 0

@@ -9,13 +9,15 @@ pub struct Worked {
     pub blocks: u64,
 }
 
-// The answer of any call. `Opened` has the page of the ticket; `Done` is that of a put and of a withdrawal; with `RootRead` the root stands in the output.
+// What a call gives where it is not refused. `Opened` has the page of the ticket; `Done` is that of a put and of a withdrawal; with `RootRead` the root stands in the output.
 #[derive(Clone, Copy, PartialEq, Eq, Debug)]
-pub enum Answer {
-    Refused(Fault),
+pub enum Reply {
     Opened(usize),
     Done,
     Stepped(Option<Worked>),
     RootRead,
     Counted(usize),
 }
+
+// The answer of any call.
+pub type Answer = Result<Reply, Fault>;

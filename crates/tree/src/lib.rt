@@ -7,7 +7,7 @@ mod examples;
 mod laws;
 pub mod shape;
 
-pub use answer::{Answer, Worked};
+pub use answer::{Answer, Reply, Worked};
 pub use examples::small_run_holds;
 pub use laws::{estimates_suffice, layers_end_at_the_root, runs_hold};
 pub use shape::Shape;
