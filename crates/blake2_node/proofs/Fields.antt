@@ -6,6 +6,7 @@ use Rattle.blake2.specs.Bytes.{le_bytes, pad}
 use Rattle.blake2.specs.declared.variant.Variant.{Variant}
 use Rattle.blake2.specs.declared.variant.Variant.TheVariants.{B, S}
 use Rattle.label.specs.Labels.{Parts}
+use Rattle.nodehash.specs.declared.position.Position.{Position}
 use Rattle.blake2_node.specs.Parameters.{fields, offset_length, zeros_length}
 
 -- a field that is written after a front takes the place of zeros
@@ -36,10 +37,10 @@ regroup : (a b c d e f g : List ℕ) → (((((a ++ b) ++ c) ++ d) ++ e) ++ f) ++
 regroup a b c d e f g = simp append_assoc
 
 -- all fields, as they were put one after another
-pub all_fields : (p : Parts) (depth offset : ℕ) (page at zeros salt layout : List ℕ)
-    → page ≡ le_bytes 4 p.page → at ≡ le_bytes (offset_length p.variant) offset → zeros ≡ replicate (zeros_length p.variant) 0 → salt ≡ p.salt → layout ≡ p.layout
-    → (((((((p.digest ∷ p.key ∷ p.fanout ∷ p.depth ∷ []) ++ page) ++ at) ++ (depth ∷ p.digest ∷ [])) ++ zeros) ++ salt) ++ layout) ≡ fields p depth offset
-all_fields p depth offset page at zeros salt layout e f g h k =
+pub all_fields : (p : Parts) (position : Position) (page at zeros salt layout : List ℕ)
+    → page ≡ le_bytes 4 p.page → at ≡ le_bytes (offset_length p.variant) position.offset → zeros ≡ replicate (zeros_length p.variant) 0 → salt ≡ p.salt → layout ≡ p.layout
+    → (((((((p.digest ∷ p.key ∷ p.fanout ∷ p.depth ∷ []) ++ page) ++ at) ++ (position.depth ∷ p.digest ∷ [])) ++ zeros) ++ salt) ++ layout) ≡ fields p position
+all_fields p position page at zeros salt layout e f g h k =
     let numbers : List ℕ = p.digest ∷ p.key ∷ p.fanout ∷ p.depth ∷ [] in
-    let node : List ℕ = depth ∷ p.digest ∷ [] in
+    let node : List ℕ = position.depth ∷ p.digest ∷ [] in
     regroup numbers page at node zeros salt layout ∙ (λ i. numbers ++ (e i ++ (f i ++ (node ++ (g i ++ (h i ++ k i))))))

@@ -2,6 +2,7 @@
 use Rattle.std.specs.Prelude.{ℕ, Bool, false, cond, ◌&&◌, List, [], length, replicate, Some, None, Option, ◌==◌}
 use Rattle.blake2.specs.Width.{Width, width_of}
 use Rattle.label.specs.Labels.{Parts}
+use Rattle.nodehash.specs.declared.position.Position.{Position}
 use Rattle.stream.specs.Hash.{blocks, hash}
 use Rattle.blake2_node.specs.Parameters.{parameter_block}
 
@@ -10,8 +11,8 @@ abbrev pub key_at : List ℕ → ℕ → List ℕ
 key_at key depth = cond (depth == 0) key []
 
 -- The digest of a node: the hash of its input under its own parameter block.
-unfoldable pub node_digest : Width → Parts → List ℕ → ℕ → ℕ → Bool → List ℕ → List ℕ
-node_digest w p key depth offset last input = hash w p.digest last (parameter_block p depth offset) (key_at key depth) input
+unfoldable pub node_digest : Width → Parts → List ℕ → Position → Bool → List ℕ → List ℕ
+node_digest w p key position last input = hash w p.digest last (parameter_block p position) (key_at key position.depth) input
 
 -- How many compressions that takes, for an input of n bytes.
 abbrev pub node_blocks : Width → List ℕ → ℕ → ℕ → ℕ
@@ -28,9 +29,9 @@ key_bytes None = []
 key_bytes (Some key) = key
 
 -- The digest that a node hash gives: zeros, without a compression, where it does not fit.
-abbrev pub digest_of : Width → Parts → Option (List ℕ) → ℕ → ℕ → Bool → List ℕ → List ℕ
-digest_of w p key depth offset last input =
-    cond (fits w p key) (node_digest w p (key_bytes key) depth offset last input) (replicate p.digest 0)
+abbrev pub digest_of : Width → Parts → Option (List ℕ) → Position → Bool → List ℕ → List ℕ
+digest_of w p key position last input =
+    cond (fits w p key) (node_digest w p (key_bytes key) position last input) (replicate p.digest 0)
 
 abbrev pub blocks_of : Width → Parts → Option (List ℕ) → ℕ → ℕ → ℕ
 blocks_of w p key depth n = cond (fits w p key) (node_blocks w (key_bytes key) depth n) 0

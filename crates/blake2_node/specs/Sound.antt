@@ -1,4 +1,4 @@
--- What every node hash owes, of those by BLAKE2.
+-- What every node hash owes, of those by BLAKE2. These lemmas stand here and not in proofs/, since the meaning of a node hash holds them.
 use Rattle.std.specs.Prelude.{◌≡◌, ℕ, ◌+◌, ◌-◌, ◌/◌, ◌≤◌, Bool, true, false, cond, List, length, replicate, Some, None, Option, ◌==◌, refl}
 use Rattle.std.proofs.Common.{arith}
 use Rattle.std.proofs.lemmas.List.{length-replicate}
@@ -9,6 +9,7 @@ use Rattle.blake2.specs.declared.variant.Variant.TheVariants.{B, S}
 use Rattle.label.specs.Labels.{Parts}
 use Rattle.label.specs.Meaning.{parts}
 use Rattle.label.specs.declared.label.Label.{Label}
+use Rattle.nodehash.specs.declared.position.Position.{Position}
 use Rattle.stream.specs.Hash.{blocks}
 use Rattle.stream.specs.Sound.{length-hash}
 use Rattle.blake2_node.specs.Nodes.{fits, node_digest, node_blocks, digest_of, blocks_of, key_bytes}
@@ -20,11 +21,11 @@ fits_tells w p (Some key) h =
     let both = and_parts (w.size == (width_of p.variant).size) (length key == p.key) h in
     (eqb-true w.size (width_of p.variant).size both.0, eqb-true (length key) p.key both.1)
 
-pub sized : (w : Width) (l : Label) (key : Option (List ℕ)) (depth offset : ℕ) (last : Bool) (input : List ℕ) → length (digest_of w (parts l) key depth offset last input) ≡ l.digest
+pub sized : (w : Width) (l : Label) (key : Option (List ℕ)) (position : Position) (last : Bool) (input : List ℕ) → length (digest_of w (parts l) key position last input) ≡ l.digest
 unfolding node_digest
-sized w l key depth offset last input = by (fits w (parts l) key) refl
+sized w l key position last input = by (fits w (parts l) key) refl
   where
-    by : (b : Bool) → fits w (parts l) key ≡ b → length (cond b (node_digest w (parts l) (key_bytes key) depth offset last input) (replicate l.digest 0)) ≡ l.digest
+    by : (b : Bool) → fits w (parts l) key ≡ b → length (cond b (node_digest w (parts l) (key_bytes key) position last input) (replicate l.digest 0)) ≡ l.digest
     by true e = length-hash w l.digest last _ _ input (omega (arith, l.digest_high, (fits_tells w (parts l) key e).0))
     by false e = length-replicate l.digest 0
 

@@ -10,7 +10,7 @@ use blake2::{Variant, Word};
 use byte_strings::Bytes;
 use fault::{Fault, Refusal};
 use label::Label;
-use nodehash::NodeHash;
+use nodehash::{NodeHash, Position};
 use std::marker::PhantomData;
 
 // The longest input of a node.
@@ -78,8 +78,7 @@ impl<W: Word> NodeHash for Blake2Node<W> {
 
     fn hash(
         &self,
-        depth: u8,
-        offset: u32,
+        position: Position,
         last: bool,
         input: &[u8],
         out: &mut [u8],
@@ -91,7 +90,7 @@ impl<W: Word> NodeHash for Blake2Node<W> {
             out.fill(0);
             return Ok(0);
         }
-        let parameters = parameter_block(&self.label, depth, offset);
-        stream::hash::<W>(&parameters, last, self.key_at(depth), input, out)
+        let parameters = parameter_block(&self.label, position);
+        stream::hash::<W>(&parameters, last, self.key_at(position.depth), input, out)
     }
 }

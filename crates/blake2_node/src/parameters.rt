@@ -6,6 +6,7 @@ ghost use Rattle.blake2_node.specs.Parameters.{offset_length, zeros_length, para
 
 use blake2::Variant;
 use label::Label;
+use nodehash::Position;
 
 // How many bytes the node offset has.
 fn offset_length(variant: Variant) -> usize
@@ -39,10 +40,10 @@ fn put(block: &mut [u8; 64], at: usize, field: &[u8]) -> usize
 }
 
 // The parameter block of a node under a label.
-pub(crate) fn parameter_block(label: &Label, depth: u8, offset: u32) -> [u8; 64]
-    ensures { result ≡ parameter_block (parts label.now) depth offset }
+pub(crate) fn parameter_block(label: &Label, position: Position) -> [u8; 64]
+    ensures { result ≡ parameter_block (parts label.now) position }
 {
-    let offset = u64::from(offset).to_le_bytes();
+    let offset = u64::from(position.offset).to_le_bytes();
     let offset_length = offset_length(label.variant);
     let zeros_length = zeros_length(label.variant);
     let mut block = [0u8; 64];
@@ -53,7 +54,7 @@ pub(crate) fn parameter_block(label: &Label, depth: u8, offset: u32) -> [u8; 64]
     );
     let at = put(&mut block, at, &u32::from(label.page).to_le_bytes());
     let at = put(&mut block, at, &offset[0..offset_length]);
-    let at = put(&mut block, at, &[depth, label.digest]);
+    let at = put(&mut block, at, &[position.depth, label.digest]);
     let at = put(&mut block, at, &[0u8; 14][0..zeros_length]);
     let at = put(&mut block, at, label.salt.as_slice());
     put(&mut block, at, label.layout.as_slice());

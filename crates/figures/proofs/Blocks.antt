@@ -8,6 +8,7 @@ use Rattle.blake2_node.specs.Nodes.{blocks_of, fits, node_blocks}
 use Rattle.image.specs.Pages.{length_in}
 use Rattle.label.specs.Labels.{Parts}
 use Rattle.nodehash.specs.Hashing.{Hashing, digest_length, fanout_of}
+use Rattle.nodehash.specs.declared.position.Position.{Position}
 use Rattle.stream.specs.Hash.{blocks}
 use Rattle.tree.specs.Below.{joined_from}
 use Rattle.tree.specs.Shapes.{Node, group_size, layer_size, over_nodes}
@@ -35,9 +36,9 @@ blocks_at said zero j = blocks blake2b said.key (length_in (extent_over 1024 100
 blocks_at said (suc k) j = blocks blake2b 0 (group_size (shaped said.fanout 10) k j * said.digest)
 
 -- the offsets of these nodes are below 10
-unfoldable pub below_ten : List (ℕ × ℕ) → Bool
+unfoldable pub below_ten : List Position → Bool
 below_ten [] = true
-below_ten (node ∷ nodes) = ltb node.1 10 && below_ten nodes
+below_ten (node ∷ nodes) = ltb node.offset 10 && below_ten nodes
 
 module _ (said : Parts) (is_b : said.variant ≡ B) (t : TenPages said) where
   abbrev h : Hashing
@@ -69,9 +70,9 @@ module _ (said : Parts) (is_b : said.variant ≡ B) (t : TenPages said) where
       ∙ ap (λ (p : Parts). over_nodes (shaped p.fanout 10) (blocks_at said)) t.says
 
   -- the blocks of some nodes
-  pub some_blocks : (nodes : List (ℕ × ℕ)) → below_ten nodes ≡ true → blocks_of_nodes t nodes ≡ map (λ (node : ℕ × ℕ). blocks_at said node.0 node.1) nodes
+  pub some_blocks : (nodes : List Position) → below_ten nodes ≡ true → blocks_of_nodes t nodes ≡ map (λ (node : Position). blocks_at said node.depth node.offset) nodes
   unfolding below_ten
   some_blocks [] e = refl
   some_blocks (node ∷ nodes) e =
-      let both = and_parts (ltb node.1 10) (below_ten nodes) e in
-      ap₂ ◌∷◌ (node_blocks_lem node.0 node.1 (λ z. ltb-true node.1 10 both.0)) (some_blocks nodes both.1)
+      let both = and_parts (ltb node.offset 10) (below_ten nodes) e in
+      ap₂ ◌∷◌ (node_blocks_lem node.depth node.offset (λ z. ltb-true node.offset 10 both.0)) (some_blocks nodes both.1)

@@ -9,7 +9,8 @@ use Rattle.label.specs.Examples.{example}
 use Rattle.label.specs.Labels.{Parts}
 use Rattle.label.specs.Meaning.{parts}
 use Rattle.label.specs.declared.label.Label.{Label}
-use Rattle.nodehash.specs.Hashing.{Hashing, fanout_of, page_length}
+use Rattle.nodehash.specs.Hashing.{Hashing, fanout_of, node, page_length}
+use Rattle.nodehash.specs.declared.position.Position.{Position}
 use Rattle.tree.specs.Marks.{short}
 use Rattle.tree.specs.Runs.{Making, shape_in}
 use Rattle.tree.specs.Shapes.{beneath, layer_count, layer_size, over_nodes}
@@ -62,8 +63,8 @@ abbrev pub all_blocks : {said : Parts} → TenPages said → ℕ
 all_blocks t = over_nodes (shape_of (hash_in t) 10) (tree_blocks (hash_in t) 10 t.page)
 
 -- the blocks of each of these nodes
-abbrev pub blocks_of_nodes : {said : Parts} → TenPages said → List (ℕ × ℕ) → List ℕ
-blocks_of_nodes t nodes = map (λ (node : ℕ × ℕ). tree_blocks (hash_in t) 10 t.page node.0 node.1) nodes
+abbrev pub blocks_of_nodes : {said : Parts} → TenPages said → List Position → List ℕ
+blocks_of_nodes t nodes = map (λ (node : Position). tree_blocks (hash_in t) 10 t.page node.depth node.offset) nodes
 
 -- one of these pages is beneath node k:j
 unfoldable pub any_beneath : ℕ → List ℕ → ℕ → ℕ → Bool
@@ -71,15 +72,15 @@ any_beneath f [] k j = false
 any_beneath f (p ∷ pages) k j = beneath f p k j || any_beneath f pages k j
 
 -- of the first n nodes of layer k, those above these pages
-unfoldable pub above_in_layer : ℕ → List ℕ → ℕ → ℕ → List (ℕ × ℕ)
+unfoldable pub above_in_layer : ℕ → List ℕ → ℕ → ℕ → List Position
 above_in_layer f pages k zero = []
-above_in_layer f pages k (suc j) = above_in_layer f pages k j ++ cond (any_beneath f pages k j) ((k, j) ∷ []) []
+above_in_layer f pages k (suc j) = above_in_layer f pages k j ++ cond (any_beneath f pages k j) (node k j ∷ []) []
 
 -- of the nodes of the first n layers, those above these pages
-unfoldable pub above_in : Shape → List ℕ → ℕ → List (ℕ × ℕ)
+unfoldable pub above_in : Shape → List ℕ → ℕ → List Position
 above_in s pages zero = []
 above_in s pages (suc k) = above_in s pages k ++ above_in_layer s.fanout pages k (layer_size s k)
 
 -- the nodes above these pages of the ten, in the order in which steps work them: those that puts on the pages mark
-abbrev pub nodes_above : List ℕ → List (ℕ × ℕ)
+abbrev pub nodes_above : List ℕ → List Position
 nodes_above pages = above_in (shaped 4 10) pages (layer_count (shaped 4 10))

@@ -6,7 +6,7 @@ ghost use Rattle.bench.specs.Buffers.{extent_over};
 ghost use Rattle.fault.specs.Faults.{fault};
 ghost use Rattle.fault.specs.declared.refusal.Refusal.TheVariants.{DepthLimit};
 ghost use Rattle.label.specs.Examples.{example};
-ghost use Rattle.nodehash.specs.Hashing.{depth_limit};
+ghost use Rattle.nodehash.specs.Hashing.{depth_limit, node};
 ghost use Rattle.tree.specs.Runs.{Making, check_answer};
 ghost use Rattle.tree.specs.Shapes.{layer_count, node_count};
 ghost use Rattle.figures.specs.Figures.{FivePages, TenPages, all_blocks, blocks_of_nodes, keyed, layer_sizes, nodes_above, shaped};
@@ -32,11 +32,11 @@ pub fn example_holds()
     ensures nodes { node_count (shaped 4 10) ≡ 14 }
     ensures blocks { (t : TenPages example) → all_blocks t ≡ 83 }
     ensures keyed_blocks { (t : TenPages keyed) → all_blocks t ≡ 93 }
-    ensures nine { nodes_above (9 ∷ []) ≡ (0, 9) ∷ (1, 2) ∷ (2, 0) ∷ [] }
+    ensures nine { nodes_above (9 ∷ []) ≡ node 0 9 ∷ node 1 2 ∷ node 2 0 ∷ [] }
     ensures nine_blocks { (t : TenPages example) → blocks_of_nodes t (nodes_above (9 ∷ [])) ≡ 7 ∷ 1 ∷ 1 ∷ [] }
-    ensures zero_one { nodes_above (0 ∷ 1 ∷ []) ≡ (0, 0) ∷ (0, 1) ∷ (1, 0) ∷ (2, 0) ∷ [] }
+    ensures zero_one { nodes_above (0 ∷ 1 ∷ []) ≡ node 0 0 ∷ node 0 1 ∷ node 1 0 ∷ node 2 0 ∷ [] }
     ensures zero_one_blocks { (t : TenPages example) → blocks_of_nodes t (nodes_above (0 ∷ 1 ∷ [])) ≡ 8 ∷ 8 ∷ 1 ∷ 1 ∷ [] }
-    ensures zero_four { nodes_above (0 ∷ 4 ∷ []) ≡ (0, 0) ∷ (0, 4) ∷ (1, 0) ∷ (1, 1) ∷ (2, 0) ∷ [] }
+    ensures zero_four { nodes_above (0 ∷ 4 ∷ []) ≡ node 0 0 ∷ node 0 4 ∷ node 1 0 ∷ node 1 1 ∷ node 2 0 ∷ [] }
     ensures zero_four_blocks { (t : TenPages example) → blocks_of_nodes t (nodes_above (0 ∷ 4 ∷ [])) ≡ 8 ∷ 8 ∷ 1 ∷ 1 ∷ 1 ∷ [] }
     ensures two_pages { 2 * layer_count (shaped 4 10) ≡ 6 }
 {}

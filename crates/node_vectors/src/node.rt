@@ -1,103 +1,109 @@
-// One node: its label and key, its place in the tree, and its input.
-use anyhow::{Context, anyhow};
+// One node: its label and key, its position in the tree, and its input.
+use anyhow::{Context, bail};
 use blake2::Variant;
 use blake2_node::{Blake2bNode, Blake2sNode};
 use byte_strings::{Bytes, hex_string};
 use fault::Fault;
 use label::Label;
-use nodehash::NodeHash;
-use std::str::SplitWhitespace;
+use nodehash::{NodeHash, Position};
+use std::alloc::Global;
 
 #[derive(Drop)]
 struct Node {
     label: Result<Label, Fault>,
     key: Bytes<64>,
-    depth: u8,
-    offset: u32,
+    position: Position,
     last: bool,
     input: Bytes<4096>,
 }
 
 // Hashes the node of a line, and prints its digest and blocks.
 pub(crate) fn answer(rt: &HostRuntime, line: &str) -> anyhow::Result<()> {
-    let node = read(&mut line.split_whitespace())?;
+    let node = Node::read(rt.alloc(), line)?;
     match node.label {
-        Ok(label) => print(rt, label, &node)?,
+        Ok(label) => node.print(rt, label)?,
         Err(fault) => println!(rt; "refused {fault}")?,
     }
     Ok(())
 }
 
-fn print(rt: &HostRuntime, label: Label, node: &Node) -> anyhow::Result<()> {
-    let mut out = vec![in rt.alloc(); 0u8; usize::from(label.digest)]?;
-    let key = node.key.as_slice();
-    let answer = match label.variant {
-        Variant::B => hash(&Blake2bNode::new(label, key), node, &mut out),
-        Variant::S => hash(&Blake2sNode::new(label, key), node, &mut out),
-    };
-    match answer {
-        Ok(blocks) => {
-            let digest = hex_string(rt.alloc(), &out)?;
-            println!(rt; "{digest} {blocks}")?;
-        },
-        Err(fault) => println!(rt; "refused {fault}")?,
+impl Node {
+    fn read(heap: Global, line: &str) -> anyhow::Result<Node> {
+        let words = line.split_whitespace().collect::<Vec<&str>>(heap)?;
+        let [
+            variant,
+            digest,
+            key,
+            fanout,
+            depth,
+            page,
+            salt,
+            layout,
+            node_depth,
+            node_offset,
+            last,
+            input,
+            ..
+        ] = words.as_slice()
+        else {
+            bail!("a word is missing");
+        };
+        let key = bytes::<64>(key)?;
+        let salt = bytes::<16>(salt)?;
+        Ok(Node {
+            label: Label::new(
+                variant_of(variant)?,
+                digest.parse::<u8>()?,
+                key.len() as u8,
+                fanout.parse::<u8>()?,
+                depth.parse::<u8>()?,
+                page.parse::<u16>()?,
+                salt.as_slice(),
+                layout.as_bytes(),
+            ),
+            key,
+            position: Position {
+                depth: node_depth.parse::<u8>()?,
+                offset: node_offset.parse::<u32>()?,
+            },
+            last: *last == "1",
+            input: bytes::<4096>(input)?,
+        })
     }
-    Ok(())
+
+    fn print(&self, rt: &HostRuntime, label: Label) -> anyhow::Result<()> {
+        let mut out = vec![in rt.alloc(); 0u8; usize::from(label.digest)]?;
+        let key = self.key.as_slice();
+        let answer = match label.variant {
+            Variant::B => self.hash(&Blake2bNode::new(label, key), &mut out),
+            Variant::S => self.hash(&Blake2sNode::new(label, key), &mut out),
+        };
+        match answer {
+            Ok(blocks) => {
+                let digest = hex_string(rt.alloc(), &out)?;
+                println!(rt; "{digest} {blocks}")?;
+            },
+            Err(fault) => println!(rt; "refused {fault}")?,
+        }
+        Ok(())
+    }
+
+    fn hash<H: NodeHash>(&self, by: &H, out: &mut [u8]) -> Result<u64, Fault> {
+        by.hash(self.position, self.last, self.input.as_slice(), out)
+    }
 }
 
-fn hash<H: NodeHash>(by: &H, node: &Node, out: &mut [u8]) -> Result<u64, Fault> {
-    by.hash(
-        node.depth,
-        node.offset,
-        node.last,
-        node.input.as_slice(),
-        out,
-    )
-}
-
-fn read(words: &mut SplitWhitespace) -> anyhow::Result<Node> {
-    let variant = match word(words)? {
-        "b" => Variant::B,
-        _ => Variant::S,
-    };
-    let digest = word(words)?.parse::<u8>()?;
-    let key = bytes::<64>(word(words)?)?;
-    let fanout = word(words)?.parse::<u8>()?;
-    let depth = word(words)?.parse::<u8>()?;
-    let page = word(words)?.parse::<u16>()?;
-    let salt = bytes::<16>(word(words)?)?;
-    let layout = word(words)?.as_bytes();
-    let key_len = key.len() as u8;
-    let label = Label::new(
-        variant,
-        digest,
-        key_len,
-        fanout,
-        depth,
-        page,
-        salt.as_slice(),
-        layout,
-    );
-    Ok(Node {
-        label,
-        key,
-        depth: word(words)?.parse::<u8>()?,
-        offset: word(words)?.parse::<u32>()?,
-        last: word(words)? == "1",
-        input: bytes::<4096>(word(words)?)?,
-    })
-}
-
-fn word<'a>(words: &mut SplitWhitespace<'a>) -> anyhow::Result<&'a str> {
-    Ok(words.next().context("a word is missing")?)
+fn variant_of(word: &str) -> anyhow::Result<Variant> {
+    match word {
+        "b" => Ok(Variant::B),
+        "s" => Ok(Variant::S),
+        _ => bail!("the variant is not b or s"),
+    }
 }
 
 fn bytes<const N: usize>(digits: &str) -> anyhow::Result<Bytes<N>> {
     if digits == "-" {
         return Ok(Bytes::new());
     }
-    match Bytes::from_hex(digits.as_bytes()) {
-        Some(bytes) => Ok(bytes),
-        None => Err(anyhow!("not hexadecimal digits, or too many")),
-    }
+    Bytes::from_hex(digits.as_bytes()).context("not hexadecimal digits, or too many")
 }

@@ -4,16 +4,17 @@ use Rattle.fault.specs.Faults.{Row, on, unless}
 use Rattle.fault.specs.declared.fault.Fault.{Fault}
 use Rattle.fault.specs.declared.refusal.Refusal.TheVariants.{NodeInput}
 use Rattle.nodehash.specs.Hashing.{Hashing, digest_length}
+use Rattle.nodehash.specs.declared.position.Position.{Position}
 
 -- 15 where the input's length n is above 4,096, or the output's length m is not the digest's.
 abbrev pub hash_rows : Hashing → ℕ → ℕ → List Row
 hash_rows h n m = on (nat_lt 4096 n || not (m == digest_length h)) NodeInput 0 ∷ []
 
 -- It answers how many blocks the digest took.
-abbrev pub hash_answer : Hashing → ℕ → ℕ → ℕ → Result ℕ Fault
-hash_answer h depth n m = unless (hash_rows h n m) (h.blocks depth n)
+abbrev pub hash_answer : Hashing → Position → ℕ → ℕ → Result ℕ Fault
+hash_answer h position n m = unless (hash_rows h n m) (h.blocks position.depth n)
 
 -- The output after it: the node's digest; where it is refused, the output as it was.
-abbrev pub hash_out : Hashing → ℕ → ℕ → Bool → List ℕ → List ℕ → List ℕ
-hash_out h depth offset last input out =
-    cond (is_ok (hash_answer h depth (length input) (length out))) (h.digest depth offset last input) out
+abbrev pub hash_out : Hashing → Position → Bool → List ℕ → List ℕ → List ℕ
+hash_out h position last input out =
+    cond (is_ok (hash_answer h position (length input) (length out))) (h.digest position last input) out

@@ -4,6 +4,7 @@ ghost use Rattle.label.specs.Meaning.{parts};
 ghost use Rattle.nodehash.specs.Answers.{hash_answer, hash_out};
 ghost use Rattle.nodehash.specs.Hashing.{Hashing};
 
+use crate::Position;
 use fault::Fault;
 use label::Label;
 
@@ -22,12 +23,11 @@ pub trait NodeHash {
     // `last` tells that the node is the last of its layer. The input is a page, or the joined digests of the nodes below.
     fn hash(
         &self,
-        depth: u8,
-        offset: u32,
+        position: Position,
         last: bool,
         input: &[u8],
         out: &mut [u8],
     ) -> Result<u64, Fault>
-        ensures answer { result ≡ hash_answer (meaning self.now) depth (length input.now) (length out.old) }
-        ensures out { out.new ≡ hash_out (meaning self.now) depth offset last input.now out.old };
+        ensures answer { result ≡ hash_answer (meaning self.now) position (length input.now) (length out.old) }
+        ensures out { out.new ≡ hash_out (meaning self.now) position last input.now out.old };
 }

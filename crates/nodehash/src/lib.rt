@@ -2,5 +2,7 @@
 #![tactic(auto)]
 
 pub mod interface;
+pub mod position;
 
 pub use interface::NodeHash;
+pub use position::Position;

@@ -1,5 +1,6 @@
 -- That estimates suffice: a put marks at most one node in each layer, and no other call marks any.
 use Rattle.std.proofs.Common.{◌≡◌, ℕ, ◌+◌, ◌*◌, ◌≤◌, Bool, true, false, cond, List, [], ◌∷◌, ◌++◌, length, set, is_some, is_ok, Some, None, Option, refl, mul-le-mul_right, add-mul, arith}
+use Rattle.nodehash.specs.declared.position.Position.{Position}
 use Rattle.tree.specs.declared.answer.Reply.TheVariants.{Done}
 use Rattle.tree.specs.Calls.{Call, Open, Put, Withdraw, Step, Root, Stale, told, answer_of, state_of, next_node, open_state, put_rows, put_answer, put_state, withdraw_state, step_table, step_state, estimate_rows, estimate_answer}
 use Rattle.tree.specs.Laws.{marks_left, put_count, Suffices}
@@ -22,9 +23,9 @@ module _ (m : Making) (s : State) (es : List Event) (i : Inv m s es) where
   as_many : marks (shape_in m) s.table ≤ marks (shape_in m) s.table
   as_many = omega arith
 
-  step-marks : (o : Option (ℕ × ℕ)) → next_node (seal m s) ≡ o → marks (shape_in m) (step_table (seal m s) o) ≤ marks (shape_in m) s.table
+  step-marks : (o : Option Position) → next_node (seal m s) ≡ o → marks (shape_in m) (step_table (seal m s) o) ≤ marks (shape_in m) s.table
   unfolding step_table marks
-  step-marks (Some v) e = let a = step-weighed m s es i v.0 v.1 (next_some (shape_in m) s.table v e) (λ k j. 1) in omega arith
+  step-marks (Some v) e = let a = step-weighed m s es i v.depth v.offset (next_some (shape_in m) s.table v e) (λ k j. 1) in omega arith
   step-marks None e = omega arith
 
   -- the marks that a call adds at most

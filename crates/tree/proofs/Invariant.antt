@@ -10,7 +10,8 @@ use Rattle.std.proofs.lemmas.Bool.{true≢false}
 use Rattle.fault.specs.Faults.{Row, unless}
 use Rattle.fault.specs.declared.fault.Fault.{Fault}
 use Rattle.image.specs.Pages.{Page, absent, count}
-use Rattle.nodehash.specs.Hashing.{digest_length, fanout_of}
+use Rattle.nodehash.specs.Hashing.{digest_length, fanout_of, node}
+use Rattle.nodehash.specs.declared.position.Position.{Position}
 use Rattle.tree.specs.declared.answer.Reply.{Reply}
 use Rattle.tree.specs.declared.answer.Reply.TheVariants.{Done, Stepped, RootRead, Counted}
 use Rattle.tree.specs.Calls.{Call, Open, Put, Withdraw, Step, Root, Stale, told, answer_of, state_of, next_node, input_of, work_on, step_table}
@@ -189,7 +190,7 @@ module _ (m : Making) where
 
   module _ (s : State) (es : List Event) (i : Inv s es) (k₀ j₀ : ℕ) (ready : Ready (shape_in m) s.table k₀ j₀) where
     -- the input of the node that is worked is the tree's
-    pub input_true : input_of (seal s) k₀ j₀ ≡ input m.hash (count m.image) (page_after m es) (digest_after m es) k₀ j₀
+    pub input_true : input_of (seal s) (node k₀ j₀) ≡ input m.hash (count m.image) (page_after m es) (digest_after m es) k₀ j₀
     unfolding input_of
     input_true =
         ap (λ page. input m.hash (count m.image) page (digest_at (seal s)) k₀ j₀) (fun_ext i.pages_are)
@@ -197,11 +198,11 @@ module _ (m : Making) where
         (λ k c e l. digest_true s es i k _ (group_node (shape_in m) k₀ k j₀ c ready.node e l) (ready.bare k c e l))
 
     abbrev step-digest : List ℕ
-    step-digest = m.hash.digest k₀ j₀ (is_last (shape_in m) k₀ j₀) (input_of (seal s) k₀ j₀)
+    step-digest = m.hash.digest (node k₀ j₀) (is_last (shape_in m) k₀ j₀) (input_of (seal s) (node k₀ j₀))
 
     step-digest_true : step-digest ≡ digest_after m es k₀ j₀
     step-digest_true =
-        ap (m.hash.digest k₀ j₀ (is_last (shape_in m) k₀ j₀)) input_true
+        ap (m.hash.digest (node k₀ j₀) (is_last (shape_in m) k₀ j₀)) input_true
         ∙ sym (tree_is m.hash (count m.image) (page_after m es) k₀ j₀)
 
     step-digest-short : length step-digest ≤ 64
@@ -211,7 +212,7 @@ module _ (m : Making) where
     step_room = room (shape_in m) s.table k₀ j₀ i.long ready.node
 
     abbrev pub worked_table : List ℕ
-    worked_table = step_table (seal s) (Some (k₀, j₀))
+    worked_table = step_table (seal s) (Some (node k₀ j₀))
 
     pub step_unmarked : marked_at (shape_in m) worked_table k₀ j₀ ≡ false
     unfolding step_table marked_at
@@ -252,7 +253,7 @@ module _ (m : Making) where
 
     module _ (work : List ℕ) where
       abbrev step_event : Event
-      step_event = did (Step work) (Ok (Stepped (work_on (seal s) (Some (k₀, j₀)))))
+      step_event = did (Step work) (Ok (Stepped (work_on (seal s) (Some (node k₀ j₀)))))
 
       step-works : works k₀ j₀ step_event ≡ true
       unfolding works work_on
@@ -307,10 +308,10 @@ module _ (m : Making) where
                 ∙ ap (held_from m k j) (sym (last_same k j step_event es (step-works_other k j ne))));
           }
 
-  inv_stepped : (s : State) (es : List Event) (work : List ℕ) → Inv s es → (o : Option (ℕ × ℕ)) → next_node (seal s) ≡ o
+  inv_stepped : (s : State) (es : List Event) (work : List ℕ) → Inv s es → (o : Option Position) → next_node (seal s) ≡ o
       → Inv (record { pages = s.pages; opened = s.opened; table = step_table (seal s) o }) (did (Step work) (Ok (Stepped (work_on (seal s) o))) ∷ es)
   unfolding step_table work_on put_in works
-  inv_stepped s es work i (Some v) e = inv_worked s es i v.0 v.1 (next_some (shape_in m) s.table v e) work
+  inv_stepped s es work i (Some v) e = inv_worked s es i v.depth v.offset (next_some (shape_in m) s.table v e) work
   inv_stepped s es work i None e =
       inv_quiet s es _ s.opened i (record { no_put = refl; no_work = λ k j. refl }) i.open_in
 

@@ -1,8 +1,12 @@
 -- The marks of a table: the node that a step works, the path that a put marks, and how many there are.
 use Rattle.std.proofs.Common.{◌≡◌, ℕ, zero, suc, ◌+◌, ◌*◌, ◌<◌, ◌≤◌, Bool, true, false, cond, ◌≢◌, List, length, is_some, Some, None, Option, sym, refl, ap, ◌∙◌, subst, arith}
 use Rattle.std.proofs.lemmas.Bool.{true≢false}
+use Rattle.std.proofs.lemmas.Option.{option_and_then_some}
+use Rattle.std.specs.Option.{option_and_then, option_map}
+use Rattle.nodehash.specs.Hashing.{node}
+use Rattle.nodehash.specs.declared.position.Position.{Position}
 use Rattle.tree.specs.declared.shape.Shape.{Shape}
-use Rattle.tree.specs.Marks.{marked_at, held_at, marks, leftmost, lowest, in_layer, in_table, next, mark_path}
+use Rattle.tree.specs.Marks.{marked_at, held_at, marks, leftmost, lowest, next, mark_path}
 use Rattle.tree.specs.Records.{marked, mark}
 use Rattle.tree.specs.Shapes.{layer_count, node_count, over_nodes, place, path, group_size, Node}
 use Rattle.tree.proofs.Below.{by_last, first_none, first_some}
@@ -12,6 +16,10 @@ use Rattle.tree.proofs.Shapes.{place-below, place_other, path_node, group_node, 
 is_none : {A : Type 0} (o : Option A) → is_some o ≡ false → o ≡ None
 is_none (Some x) e = cc
 is_none None e = refl
+
+option_map_some : {A B P : Type 0} (f : A → B) (o : Option A) (y : B) → option_map f o ≡ Some y → ((x : A) → o ≡ Some x → f x ≡ y → P) → P
+option_map_some f None y e k = absurd (cc)
+option_map_some f (Some x) y e k = k x refl (cc)
 
 module _ (s : Shape) where
   -- the table has a record for each node
@@ -51,14 +59,14 @@ module _ (s : Shape) where
 
   -- where there is no next node, none is marked
   pub next_none : (t : List ℕ) → next s t ≡ None → (k j : ℕ) → Node s k j → marked_at s t k j ≡ false
-  unfolding next in_table in_layer
+  unfolding next
   next_none t e k j v = go (lowest s t) refl e
     where
-      inner : (x : ℕ) → lowest s t ≡ Some x → (o : Option ℕ) → leftmost s t x ≡ o → in_layer s x o ≡ None → marked_at s t k j ≡ false
+      inner : (x : ℕ) → lowest s t ≡ Some x → (o : Option ℕ) → leftmost s t x ≡ o → option_map (node x) o ≡ None → marked_at s t k j ≡ false
       inner x e₁ (Some y) e₂ e₃ = cc
       inner x e₁ None e₂ e₃ = absurd (true≢false (sym (leftmost_some t x e₁) ∙ ap is_some e₂))
 
-      go : (o : Option ℕ) → lowest s t ≡ o → in_table s t o ≡ None → marked_at s t k j ≡ false
+      go : (o : Option ℕ) → lowest s t ≡ o → option_and_then (λ k. option_map (node k) (leftmost s t k)) o ≡ None → marked_at s t k j ≡ false
       go (Some x) e₁ e₂ = inner x e₁ (leftmost s t x) refl e₂
       go None e₁ e₂ = none_left t e₁ k j v
 
@@ -74,19 +82,12 @@ module _ (s : Shape) where
       }
 
   -- the next node can be worked
-  pub next_some : (t : List ℕ) (v : ℕ × ℕ) → next s t ≡ Some v → Ready t v.0 v.1
-  unfolding next in_table in_layer
-  next_some t v e = lowest_ready t v.0 v.1 (go (lowest s t) refl e)
-    where
-      inner : (x : ℕ) → lowest s t ≡ Some x → (o : Option ℕ) → leftmost s t x ≡ o → in_layer s x o ≡ Some v → Lowest t v.0 v.1
-      inner x e₁ (Some y) e₂ e₃ =
-          let q : (x, y) ≡ v = cc in
-          subst (λ (u : ℕ × ℕ). Lowest t u.0 u.1) q (lowest_at t x y e₁ e₂)
-      inner x e₁ None e₂ e₃ = absurd (let z : ◌≡◌ {A = ℕ} 0 1 = cc in omega arith)
-
-      go : (o : Option ℕ) → lowest s t ≡ o → in_table s t o ≡ Some v → Lowest t v.0 v.1
-      go (Some x) e₁ e₂ = inner x e₁ (leftmost s t x) refl e₂
-      go None e₁ e₂ = absurd (let z : ◌≡◌ {A = ℕ} 0 1 = cc in omega arith)
+  pub next_some : (t : List ℕ) (v : Position) → next s t ≡ Some v → Ready t v.depth v.offset
+  unfolding next
+  next_some t v e =
+      option_and_then_some _ (lowest s t) v e
+      (λ x low f. option_map_some (node x) (leftmost s t x) v f
+      (λ y left q. lowest_ready t v.depth v.offset (subst (λ (u : Position). Lowest t u.depth u.offset) q (lowest_at t x y low left))))
 
   -- THE PATH THAT A PUT MARKS
 

@@ -5,7 +5,8 @@ use native.Mathlib.Decide.{ℕ_discrete}
 use Rattle.fault.specs.Faults.{on, unless, fault}
 use Rattle.fault.specs.declared.refusal.Refusal.TheVariants.{NodeMarked}
 use Rattle.image.specs.Pages.{count, page_at}
-use Rattle.nodehash.specs.Hashing.{digest_length}
+use Rattle.nodehash.specs.Hashing.{digest_length, node}
+use Rattle.nodehash.specs.declared.position.Position.{Position}
 use Rattle.tree.specs.declared.answer.Reply.TheVariants.{Stepped, RootRead}
 use Rattle.tree.specs.Calls.{Call, Open, Put, Withdraw, Step, Root, Stale, told, answer_of, buffer_of, state_of, next_node, is_unreadable, work_rows, page_rows, work_on, step_table, step_answer, step_state, root_rows, root_answer, root_out}
 use Rattle.tree.specs.Laws.{IsStep, StepsAlone, reported, root_after, blocks_after, marks_left, Clear, StepsAccepted, RootWaits, RootComes, BlocksSum}
@@ -38,13 +39,13 @@ by_steps P none one (c ∷ more) h = by_step (λ c. P more → P (c ∷ more)) (
 module _ (m : Making) (s : State) (es : List Event) (i : Inv m s es) where
   -- a node that is worked loses its mark and nothing else does
   pub step-weighed : (k₀ j₀ : ℕ) → Ready (shape_in m) s.table k₀ j₀ → (w : ℕ → ℕ → ℕ)
-      → weighed (shape_in m) w s.table ≡ w k₀ j₀ + weighed (shape_in m) w (step_table (seal m s) (Some (k₀, j₀)))
+      → weighed (shape_in m) w s.table ≡ w k₀ j₀ + weighed (shape_in m) w (step_table (seal m s) (Some (node k₀ j₀)))
   step-weighed k₀ j₀ ready w =
       weighed_one (shape_in m) w s.table _ k₀ j₀ ready.node ready.is_marked
       (step_unmarked m s es i k₀ j₀ ready) (step-marked_other m s es i k₀ j₀ ready)
 
   step-blocks : (k₀ j₀ : ℕ) → Ready (shape_in m) s.table k₀ j₀
-      → blocks_in (Ok (Stepped (work_on (seal m s) (Some (k₀, j₀))))) ≡ blocks_after m es k₀ j₀
+      → blocks_in (Ok (Stepped (work_on (seal m s) (Some (node k₀ j₀))))) ≡ blocks_after m es k₀ j₀
   unfolding work_on tree_blocks
   step-blocks k₀ j₀ ready = ap (λ x. m.hash.blocks k₀ (length x)) (input_true m s es i k₀ j₀ ready)
 
@@ -57,15 +58,15 @@ module _ (m : Making) (s : State) (es : List Event) (i : Inv m s es) where
     not_short = le-ltb _ _ i.long
 
     module _ (readable : (p : ℕ) → p < count m.image → (page_at m.image p).state.readable ≡ true) (work : List ℕ) (fits : length work ≡ 4096) where
-      next_readable : (o : Option (ℕ × ℕ)) → next_node (seal m s) ≡ o → is_unreadable (seal m s) o ≡ false
+      next_readable : (o : Option Position) → next_node (seal m s) ≡ o → is_unreadable (seal m s) o ≡ false
       unfolding is_unreadable layer_size
       next_readable (Some v) e =
           let c = next_some (shape_in m) s.table v e in
-          elim (ℕ_discrete v.0 0) [
+          elim (ℕ_discrete v.depth 0) [
             | yes q ↦
-                let l : v.1 < count m.image = subst (λ k. v.1 < layer_size (shape_in m) k) q c.node.left in
-                ap (λ b. eqb v.0 0 && not b) (readable v.1 l) ∙ and-false _
-            | no ne ↦ ap (λ b. b && not (page_at m.image v.1).state.readable) (ne_eqb v.0 0 ne)
+                let l : v.offset < count m.image = subst (λ k. v.offset < layer_size (shape_in m) k) q c.node.left in
+                ap (λ b. eqb v.depth 0 && not b) (readable v.offset l) ∙ and-false _
+            | no ne ↦ ap (λ b. b && not (page_at m.image v.offset).state.readable) (ne_eqb v.depth 0 ne)
           ]
       next_readable None e = refl
 
@@ -96,17 +97,17 @@ module _ (m : Making) (s : State) (es : List Event) (i : Inv m s es) where
       unfolding marks
       step_lowers some = go (next_node (seal m s)) refl
         where
-          go : (o : Option (ℕ × ℕ)) → next_node (seal m s) ≡ o → Lowered
+          go : (o : Option Position) → next_node (seal m s) ≡ o → Lowered
           go (Some v) e =
               let r = next_some (shape_in m) s.table v e in
-              let a : answer_of (seal m s) (Step work) ≡ Ok (Stepped (work_on (seal m s) (Some v))) = step_answer_lem ∙ ap (λ (o : Option (ℕ × ℕ)). Ok (Stepped (work_on (seal m s) o))) e in
+              let a : answer_of (seal m s) (Step work) ≡ Ok (Stepped (work_on (seal m s) (Some v))) = step_answer_lem ∙ ap (λ (o : Option Position). Ok (Stepped (work_on (seal m s) o))) e in
               let b : (state_of (seal m s) (Step work)).table ≡ step_table (seal m s) (Some v) = ap (λ x. x.table) step_state_lem ∙ ap (step_table (seal m s)) e in
               record {
-                marks-less = rw b (step-weighed v.0 v.1 r (λ k j. 1));
+                marks-less = rw b (step-weighed v.depth v.offset r (λ k j. 1));
                 blocks-less =
                     rw (a, b)
-                    (step-weighed v.0 v.1 r (blocks_after m es)
-                    ∙ ap (λ x. x + weighed (shape_in m) (blocks_after m es) (step_table (seal m s) (Some v))) (sym (step-blocks v.0 v.1 r)));
+                    (step-weighed v.depth v.offset r (blocks_after m es)
+                    ∙ ap (λ x. x + weighed (shape_in m) (blocks_after m es) (step_table (seal m s) (Some v))) (sym (step-blocks v.depth v.offset r)));
               }
           go None e = absurd (let z = weighed_none (shape_in m) (λ k j. 1) s.table (next_none (shape_in m) s.table e) in omega arith)
 

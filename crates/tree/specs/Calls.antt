@@ -1,10 +1,12 @@
 -- The calls on a seal: what each answers, what it leaves in its buffer, and the state after it, for every argument.
 use Rattle.std.specs.Prelude.{ℕ, suc, ◌*◌, Bool, true, false, cond, not, ◌&&◌, List, [], ◌∷◌, ◌++◌, length, replicate, is_some, is_ok, Some, None, Ok, Err, Option, Result, ◌==◌, nat_le, nat_lt, slice_set}
+use Rattle.std.specs.Option.{option_map}
 use Rattle.fault.specs.Faults.{Row, on, unless}
 use Rattle.fault.specs.declared.fault.Fault.{Fault}
 use Rattle.fault.specs.declared.refusal.Refusal.TheVariants.{PageBuffer, PageUnreadable, TableLength, SealVoid, WorkBuffer, PageOpen, TicketPage, RootWhileOpen, NodeMarked, RootBuffer, PageList}
 use Rattle.image.specs.Answers.{write_rows}
 use Rattle.nodehash.specs.Hashing.{digest_length}
+use Rattle.nodehash.specs.declared.position.Position.{Position}
 use Rattle.tree.specs.declared.answer.Reply.{Reply}
 use Rattle.tree.specs.declared.answer.Reply.TheVariants.{Opened, Done, Stepped, RootRead, Counted}
 use Rattle.tree.specs.declared.answer.Worked.{Worked}
@@ -78,40 +80,34 @@ work_rows v n =
     ∷ []
 
 -- the node that a step works
-abbrev pub next_node : View → Option (ℕ × ℕ)
+abbrev pub next_node : View → Option Position
 next_node v = next (shape v) v.state.table
 
 -- a node is a page that cannot be read
-unfoldable pub is_unreadable : View → Option (ℕ × ℕ) → Bool
-is_unreadable v (Some node) = node.0 == 0 && not (v.base.state_at node.1).readable
+unfoldable pub is_unreadable : View → Option Position → Bool
+is_unreadable v (Some node) = node.depth == 0 && not (v.base.state_at node.offset).readable
 is_unreadable v None = false
 
-unfoldable pub offset_of : Option (ℕ × ℕ) → ℕ
-offset_of (Some node) = node.1
+unfoldable pub offset_of : Option Position → ℕ
+offset_of (Some node) = node.offset
 offset_of None = 0
 
 abbrev pub page_rows : View → List Row
 page_rows v = on (is_unreadable v (next_node v)) PageUnreadable (offset_of (next_node v)) ∷ []
 
--- the input of node k:j, from the pages and from the digests that the table holds
-unfoldable pub input_of : View → ℕ → ℕ → List ℕ
-input_of v k j = input v.base.hash v.base.count (page_bytes v.state) (digest_at v) k j
+-- the input of a node, from the pages and from the digests that the table holds
+unfoldable pub input_of : View → Position → List ℕ
+input_of v node = input v.base.hash v.base.count (page_bytes v.state) (digest_at v) node.depth node.offset
 
--- what is answered of the node that was worked: its depth, its offset and its blocks
-unfoldable pub work_on : View → Option (ℕ × ℕ) → Option Worked
-work_on v (Some node) =
-    Some (record {
-      depth = node.0;
-      offset = node.1;
-      blocks = v.base.hash.blocks node.0 (length (input_of v node.0 node.1));
-    })
-work_on v None = None
+-- what is answered of the node that was worked: its position and its blocks
+unfoldable pub work_on : View → Option Position → Option Worked
+work_on v = option_map (λ node. record { position = node; blocks = v.base.hash.blocks node.depth (length (input_of v node)) })
 
 -- the table once a node was worked
-unfoldable pub step_table : View → Option (ℕ × ℕ) → List ℕ
+unfoldable pub step_table : View → Option Position → List ℕ
 step_table v (Some node) =
-    store v.state.table (place (shape v) node.0 node.1)
-    (v.base.hash.digest node.0 node.1 (is_last (shape v) node.0 node.1) (input_of v node.0 node.1))
+    store v.state.table (place (shape v) node.depth node.offset)
+    (v.base.hash.digest node (is_last (shape v) node.depth node.offset) (input_of v node))
 step_table v None = v.state.table
 
 unfoldable pub step_answer : View → ℕ → Result (Option Worked) Fault

@@ -12,9 +12,9 @@ abbrev pub adding : Hashing
 adding = record {
   label = record { variant = example.variant; digest = 1; key = 0; fanout = 2; depth = 3; page = 2; salt = example.salt; layout = example.layout };
   fit = true;
-  digest = λ depth offset last input. (sum input + (10 * depth + offset)) ∷ [];
+  digest = λ node last input. (sum input + (10 * node.depth + node.offset)) ∷ [];
   blocks = λ depth n. 1;
-  sized = λ depth offset last input. refl;
+  sized = λ node last input. refl;
   short = omega arith;
   wide = omega arith;
   narrow = omega arith;

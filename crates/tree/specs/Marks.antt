@@ -1,5 +1,8 @@
 -- The nodes of a table: which are marked, which is worked next, and the path that a put marks.
-use Rattle.std.specs.Prelude.{ℕ, zero, suc, ◌*◌, Bool, cond, List, length, is_some, Some, None, Option, nat_lt}
+use Rattle.std.specs.Prelude.{ℕ, zero, suc, ◌*◌, Bool, cond, List, length, is_some, Option, nat_lt}
+use Rattle.std.specs.Option.{option_and_then, option_map}
+use Rattle.nodehash.specs.Hashing.{node}
+use Rattle.nodehash.specs.declared.position.Position.{Position}
 use Rattle.tree.specs.declared.shape.Shape.{Shape}
 use Rattle.tree.specs.Below.{first}
 use Rattle.tree.specs.Records.{marked, held, mark}
@@ -26,19 +29,9 @@ module _ (s : Shape) where
   unfoldable pub lowest : List ℕ → Option ℕ
   lowest t = first (λ k. is_some (leftmost t k)) (layer_count s)
 
-  -- a node of layer k
-  unfoldable pub in_layer : ℕ → Option ℕ → Option (ℕ × ℕ)
-  in_layer k (Some j) = Some (k, j)
-  in_layer k None = None
-
-  -- the leftmost marked node of a layer
-  unfoldable pub in_table : List ℕ → Option ℕ → Option (ℕ × ℕ)
-  in_table t (Some k) = in_layer k (leftmost t k)
-  in_table t None = None
-
   -- the node that is worked next: the leftmost marked node of the lowest layer that has one
-  unfoldable pub next : List ℕ → Option (ℕ × ℕ)
-  next t = in_table t (lowest t)
+  unfoldable pub next : List ℕ → Option Position
+  next t = option_and_then (λ k. option_map (node k) (leftmost t k)) (lowest t)
 
   -- the table with the path of page p marked in the first m layers
   unfoldable pub mark_path : ℕ → ℕ → List ℕ → List ℕ

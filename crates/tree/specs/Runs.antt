@@ -106,9 +106,9 @@ unfoldable pub put_beneath : ℕ → ℕ → ℕ → Option (ℕ × List ℕ) �
 put_beneath f k j (Some put) = beneath f put.0 k j
 put_beneath f k j None = false
 
--- a step works the node whose depth and offset it answers
+-- a step works the node whose position it answers
 abbrev pub answers_node : ℕ → ℕ → Answer → Bool
-answers_node k j (Ok (Stepped (Some w))) = w.depth == k && w.offset == j
+answers_node k j (Ok (Stepped (Some w))) = w.position.depth == k && w.position.offset == j
 answers_node k j _ = false
 
 unfoldable pub works : ℕ → ℕ → Event → Bool

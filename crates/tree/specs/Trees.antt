@@ -1,6 +1,6 @@
 -- The tree that a node hash makes of n pages: the input, the digest and the blocks of each node.
 use Rattle.std.specs.Prelude.{ℕ, zero, suc, ◌*◌, List, length}
-use Rattle.nodehash.specs.Hashing.{Hashing, fanout_of}
+use Rattle.nodehash.specs.Hashing.{Hashing, fanout_of, node}
 use Rattle.tree.specs.declared.shape.Shape.{Shape}
 use Rattle.tree.specs.Below.{joined_from}
 use Rattle.tree.specs.Shapes.{root_layer, is_last, group_size}
@@ -17,9 +17,9 @@ module _ (h : Hashing) (n : ℕ) where
 
   -- the digest of node k:j: a group of one is hashed too
   unfoldable pub tree : (ℕ → List ℕ) → ℕ → ℕ → List ℕ
-  tree page zero j = h.digest 0 j (is_last (shape_of h n) 0 j) (page j)
+  tree page zero j = h.digest (node 0 j) (is_last (shape_of h n) 0 j) (page j)
   tree page (suc k) j =
-      h.digest (suc k) j (is_last (shape_of h n) (suc k) j) (joined_from (tree page k) (j * fanout_of h) (group_size (shape_of h n) k j))
+      h.digest (node (suc k) j) (is_last (shape_of h n) (suc k) j) (joined_from (tree page k) (j * fanout_of h) (group_size (shape_of h n) k j))
 
   -- the blocks of node k:j
   unfoldable pub tree_blocks : (ℕ → List ℕ) → ℕ → ℕ → ℕ

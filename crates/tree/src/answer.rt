@@ -1,11 +1,11 @@
 // What the calls on a seal answer.
 use fault::Fault;
+use nodehash::Position;
 
 // A node that was worked, and how many blocks its digest took.
 #[derive(Clone, Copy, PartialEq, Eq, Debug)]
 pub struct Worked {
-    pub depth: u8,
-    pub offset: u32,
+    pub position: Position,
     pub blocks: u64,
 }
 

@@ -15,7 +15,7 @@ returns c =
     let numbers : List ℕ = l.digest ∷ l.key ∷ l.fanout ∷ l.depth ∷ [] in
     let page = c.to_le_bytes.result in
     let at = take (c.offset_length-offset_length.result - 0) bytes in
-    let node : List ℕ = c.args.depth ∷ l.digest ∷ [] in
+    let node : List ℕ = c.args.position.depth ∷ l.digest ∷ [] in
     let zeros : List ℕ = take (c.zeros_length-zeros_length.result - 0) (replicate 14 0) in
     let salt = c.as_slice.result.now in
     let layout = c.as_slice-2.result.now in
@@ -39,11 +39,11 @@ returns c =
     let e6 : c.put-at-6.new.block ≡ pad 64 front6 = c.put-at-6.ensures.after front5 n5 e5 in
     let e7 : c.put.new.block ≡ pad 64 front7 = c.put.ensures.after front6 n6 e6 in
     let length : c.from-2.result ≡ l.page = omega (arith, c.from-2.ensures) in
-    let place : c.from.result ≡ c.args.offset = omega (arith, c.from.ensures) in
+    let place : c.from.result ≡ c.args.position.offset = omega (arith, c.from.ensures) in
     let four : page ≡ le_bytes 4 c.from-2.result = c.to_le_bytes.ensures ∙ simp div-div-eq-div-mul in
     let eight : bytes ≡ le_bytes 8 c.from.result = c.to_le_bytes-offset.ensures ∙ simp div-div-eq-div-mul in
     e7 ∙ ap (pad 64)
-    (all_fields (parts l) c.args.depth c.args.offset page at zeros salt layout
+    (all_fields (parts l) c.args.position page at zeros salt layout
     (four ∙ ap (le_bytes 4) length)
-    (offset_bytes v _ c.args.offset bytes c.offset_length-offset_length.ensures.0 (eight ∙ ap (le_bytes 8) place))
+    (offset_bytes v _ c.args.position.offset bytes c.offset_length-offset_length.ensures.0 (eight ∙ ap (le_bytes 8) place))
     (some_zeros v _ c.zeros_length-zeros_length.ensures.0) c.as_slice.ensures c.as_slice-2.ensures)
