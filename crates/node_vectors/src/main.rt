@@ -2,7 +2,7 @@
 //
 //     VARIANT DIGEST KEY FANOUT DEPTH PAGE SALT LAYOUT NODE-DEPTH NODE-OFFSET LAST INPUT
 //
-// VARIANT is b or s; KEY, SALT and INPUT are hexadecimal; LAYOUT is a layout name; LAST is 1 on the last node of a layer, else 0; the others are decimal numbers.
+// VARIANT is b or s, and any other word counts as s; KEY, SALT and INPUT are hexadecimal; LAYOUT is a layout name; LAST is 1 on the last node of a layer, else 0; the others are decimal numbers.
 // The label's key length is that of KEY. A line of output has the digest, hexadecimal, and the number of blocks, or the word refused and the fault. Lines that are empty or begin with # are passed over.
 
 #![tactic(auto)]

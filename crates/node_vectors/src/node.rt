@@ -52,7 +52,7 @@ impl Node {
         let salt = bytes::<16>(salt)?;
         Ok(Node {
             label: Label::new(
-                variant_of(variant)?,
+                Variant::try_from(variant.as_bytes()).unwrap_or(Variant::S),
                 digest.parse::<u8>()?,
                 key.len() as u8,
                 fanout.parse::<u8>()?,
@@ -90,14 +90,6 @@ impl Node {
 
     fn hash<H: NodeHash>(&self, by: &H, out: &mut [u8]) -> Result<u64, Fault> {
         by.hash(self.position, self.last, self.input.as_slice(), out)
-    }
-}
-
-fn variant_of(word: &str) -> anyhow::Result<Variant> {
-    match word {
-        "b" => Ok(Variant::B),
-        "s" => Ok(Variant::S),
-        _ => bail!("the variant is not b or s"),
     }
 }
 
