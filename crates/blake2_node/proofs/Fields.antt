@@ -1,7 +1,7 @@
 -- Fields that are put into a block one after another.
 use Rattle.std.proofs.Common.{◌≡◌, ℕ, ◌+◌, ◌-◌, ◌≤◌, List, [], ◌∷◌, ◌++◌, length, take, drop, replicate, sym, ap, ◌∙◌, arith}
 use borrow.Rule.Slice.PartMut.{put_mid}
-use Rattle.std.proofs.lemmas.List.{append_assoc, drop_at, drop-replicate, length-append, take_at}
+use Rattle.std.proofs.lemmas.List.{append_assoc, drop_at, drop-replicate, length-append, length-take-le, take_at}
 use Rattle.blake2.specs.Bytes.{le_bytes, pad}
 use Rattle.blake2.specs.declared.variant.Variant.{Variant}
 use Rattle.blake2.specs.declared.variant.Variant.TheVariants.{B, S}
@@ -9,38 +9,52 @@ use Rattle.label.specs.Labels.{Parts}
 use Rattle.nodehash.specs.declared.position.Position.{Position}
 use Rattle.blake2_node.specs.Parameters.{fields, offset_length, zeros_length}
 
--- a field that is written after a front takes the place of zeros
-pub put_after : (n k at : ℕ) (front field block last : List ℕ) → at + length field ≤ n → length front ≡ at → block ≡ pad n front → k ≡ length field → last ≡ field
-    → put_mid at k block last ≡ pad n (front ++ field)
-unfolding pad
-put_after n k at front field block last room here zeros size copy =
-    let rest : List ℕ = replicate (n - length front) 0 in
-    let before : take at block ≡ front = ap (take at) zeros ∙ take_at front rest at here in
-    let behind : drop k (drop at block) ≡ replicate (n - length (front ++ field)) 0 =
-    ap (λ xs. drop k (drop at xs)) zeros ∙ ap (drop k) (drop_at front rest at here) ∙ drop-replicate k (n - length front) 0
-    ∙ ap (λ m. replicate m 0) (omega (arith, length-append front field)) in
-    (λ i. before i ++ (copy i ++ behind i)) ∙ sym (append_assoc front field (replicate (n - length (front ++ field)) 0))
+-- a field that is put behind the first bytes of a block takes the place of zeros
+module _ (at : ℕ) (block front field last : List ℕ) (seen : take at block ≡ front) (room : length front + length field ≤ 64) (long : length block ≡ 64)
+    (held : (at ≤ 64) × (block ≡ pad 64 (take at block))) (copy : last ≡ field) where
+  abbrev put : List ℕ
+  put = put_mid at (at + length field - at) block last
 
-pub next_place : (front field : List ℕ) (at next : ℕ) → length front ≡ at → next ≡ at + length field → length (front ++ field) ≡ next
-next_place front field at next here e = omega (arith, length-append front field)
+  front_length : length front ≡ at
+  front_length = ap length (sym seen) ∙ length-take-le at block (omega arith)
+
+  put_is : put ≡ pad 64 (front ++ field)
+  unfolding pad
+  put_is =
+      let rest : List ℕ = replicate (64 - length front) 0 in
+      let zeros : block ≡ front ++ rest = held.1 ∙ ap (pad 64) seen in
+      let size : at + length field - at ≡ length field = omega arith in
+      let behind : drop (at + length field - at) (drop at block) ≡ replicate (64 - length (front ++ field)) 0 =
+      (λ i. drop (size i) (drop at (zeros i))) ∙ ap (drop (length field)) (drop_at front rest at front_length) ∙ drop-replicate (length field) (64 - length front) 0
+      ∙ ap (λ n. replicate n 0) (omega (arith, length-append front field)) in
+      (λ i. seen i ++ (copy i ++ behind i)) ∙ sym (append_assoc front field (replicate (64 - length (front ++ field)) 0))
+
+  pub put_seen : take (at + length field) put ≡ front ++ field
+  unfolding pad
+  put_seen = ap (take (at + length field)) put_is ∙ take_at (front ++ field) _ _ (length-append front field ∙ omega (arith, front_length))
+
+  pub put_held : (at + length field ≤ 64) × (put ≡ pad 64 (take (at + length field) put))
+  put_held = (omega (arith, front_length), put_is ∙ ap (pad 64) (sym put_seen))
 
 -- the first bytes of an offset, as many as it has
-pub offset_bytes : (v : Variant) (n x : ℕ) (bytes : List ℕ) → n ≡ offset_length v → bytes ≡ le_bytes 8 x → take (n - 0) bytes ≡ le_bytes (offset_length v) x
+pub offset_bytes : (v : Variant) (n x : ℕ) (bytes : List ℕ) → n ≡ offset_length v → bytes ≡ le_bytes 8 x → take n bytes ≡ le_bytes (offset_length v) x
 offset_bytes B n x bytes e b = rw (e, b)
 offset_bytes S n x bytes e b = rw (e, b)
 
-pub some_zeros : (v : Variant) (n : ℕ) → n ≡ zeros_length v → take {A = ℕ} (n - 0) (replicate 14 0) ≡ replicate (zeros_length v) 0
+pub some_zeros : (v : Variant) (n : ℕ) → n ≡ zeros_length v → take {A = ℕ} n (replicate 14 0) ≡ replicate (zeros_length v) 0
 some_zeros B n e = rw e
 some_zeros S n e = rw e
 
 regroup : (a b c d e f g : List ℕ) → (((((a ++ b) ++ c) ++ d) ++ e) ++ f) ++ g ≡ a ++ (b ++ (c ++ (d ++ (e ++ (f ++ g)))))
 regroup a b c d e f g = simp append_assoc
 
--- all fields, as they were put one after another
-pub all_fields : (p : Parts) (position : Position) (page at zeros salt layout : List ℕ)
+-- the fields, as they are put one after another
+pub all_fields : (p : Parts) (position : Position) {b₀ b₁ b₂ b₃ b₄ b₅ b₆ b₇ page at zeros salt layout : List ℕ}
+    → b₀ ≡ [] → b₁ ≡ b₀ ++ (p.digest ∷ p.key ∷ p.fanout ∷ p.depth ∷ []) → b₂ ≡ b₁ ++ page → b₃ ≡ b₂ ++ at → b₄ ≡ b₃ ++ (position.depth ∷ p.digest ∷ [])
+    → b₅ ≡ b₄ ++ zeros → b₆ ≡ b₅ ++ salt → b₇ ≡ b₆ ++ layout
     → page ≡ le_bytes 4 p.page → at ≡ le_bytes (offset_length p.variant) position.offset → zeros ≡ replicate (zeros_length p.variant) 0 → salt ≡ p.salt → layout ≡ p.layout
-    → (((((((p.digest ∷ p.key ∷ p.fanout ∷ p.depth ∷ []) ++ page) ++ at) ++ (position.depth ∷ p.digest ∷ [])) ++ zeros) ++ salt) ++ layout) ≡ fields p position
-all_fields p position page at zeros salt layout e f g h k =
+    → b₇ ≡ fields p position
+all_fields p position {page = page} {at} {zeros} {salt} {layout} e₀ e₁ e₂ e₃ e₄ e₅ e₆ e₇ f g h k l =
     let numbers : List ℕ = p.digest ∷ p.key ∷ p.fanout ∷ p.depth ∷ [] in
     let node : List ℕ = position.depth ∷ p.digest ∷ [] in
-    regroup numbers page at node zeros salt layout ∙ (λ i. numbers ++ (e i ++ (f i ++ (node ++ (g i ++ (h i ++ k i))))))
+    rw (e₇, e₆, e₅, e₄, e₃, e₂, e₁, e₀) (regroup numbers page at node zeros salt layout ∙ (λ i. numbers ++ (f i ++ (g i ++ (node ++ (h i ++ (k i ++ l i)))))))

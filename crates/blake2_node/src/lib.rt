@@ -1,6 +1,7 @@
 // BLAKE2b and BLAKE2s as node hashes.
 #![tactic(auto)]
 
+mod block;
 mod examples;
 pub mod node;
 mod parameters;

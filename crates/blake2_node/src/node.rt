@@ -69,11 +69,11 @@ impl<W: Word> NodeHash for Blake2Node<W> {
     }
 
     fn is_fit(&self) -> bool {
-        match &self.key {
-            Some(key) => W::size() == word_size(self.label.variant)
-                && key.len() == usize::from(self.label.key),
-            None => false,
-        }
+        W::size() == word_size(self.label.variant)
+            && self
+                .key
+                .as_ref()
+                .is_some_and(|key| key.len() == usize::from(self.label.key))
     }
 
     fn hash(
