@@ -1,30 +1,27 @@
 -- Hexadecimal text: what its reader and its writer do at each byte, and that they are inverse to each other.
-use Rattle.std.proofs.Common.{◌≡◌, ℕ, ◌+◌, ◌-◌, ◌*◌, ◌/◌, ◌%◌, ◌<◌, ◌≤◌, Bool, true, false, cond, ◌&&◌, ltb, leb, List, [], ◌∷◌, ◌++◌, length, get_or, take, drop, Some, None, Option, sym, refl, ap, ◌∙◌, ⊎_elim, append_assoc, append-nil, arith}
-use Rattle.std.proofs.lemmas.List.{drop_more, take_more}
-use Rattle.std.proofs.lemmas.Bool.{cond_both, lt-ltb, le-ltb, le-leb, lt-leb, ltb-true, leb-true, and_parts, and_from, and_right, cases_lt, cond-true, cond-false}
+use Rattle.std.proofs.Common.{◌≡◌, ℕ, zero, suc, ◌+◌, ◌-◌, ◌*◌, ◌/◌, ◌%◌, ◌<◌, ◌≤◌, Bool, true, false, cond, ◌&&◌, eqb, ltb, leb, List, [], ◌∷◌, ◌++◌, length, get_or, take, Some, None, Option, sym, refl, ap, subst, ◌∙◌, ◌⊎◌, ⊎_elim, append_assoc, append-nil, arith, length-append}
+use Rattle.std.proofs.lemmas.List.{take_more, length-take-le}
+use Rattle.std.proofs.lemmas.Bool.Decides.{nat_tests}
+use Rattle.std.proofs.lemmas.Bool.{eqb-true, lt-ltb, le-ltb, le-leb, lt-leb, ltb-true, leb-true, and_parts, and_from, cases_lt, cond-true, cond-false}
 use Rattle.std.specs.Int.{is_in_range}
 use Rattle.std.specs.Char.{digit_char}
-use Rattle.std.specs.List.{AllByRecursion as All}
+use Rattle.hex.specs.Hex.{lower_digits, encode_lower, encode_with}
 use Rattle.byte_strings.specs.Hexadecimal.{hex, nibble, unhex, hex_within}
+use Rattle.byte_strings.specs.Strings.{AreBytes}
 
--- reading: the pair of digits at 2 * i
+-- reading: the next pair of digits
 
-module _ (v : List ℕ) (i : ℕ) (lt : 2 * i + 1 < length v) where
-  pair : drop (2 * i) v ≡ get_or v (2 * i) 0 ∷ (get_or v (2 * i + 1) 0 ∷ drop (2 * (i + 1)) v)
-  pair =
-      drop_more v (2 * i) 0 (omega arith) ∙ ap (λ xs. get_or v (2 * i) 0 ∷ xs) (drop_more v (2 * i + 1) 0 lt ∙ ap (λ n. get_or v (2 * i + 1) 0 ∷ drop n v) (omega arith))
+pub unhex_more : (bs pair rest : List ℕ) {h l : ℕ} → length pair ≡ 2 → nibble (get_or pair 0 0) ≡ h → h < 16 → nibble (get_or pair 1 0) ≡ l → l < 16 → unhex bs (pair ++ rest) ≡ unhex (bs ++ ((16 * h + l) ∷ [])) rest
+unhex_more bs [] rest n eh hh el hl = absurd (omega arith)
+unhex_more bs (c ∷ []) rest n eh hh el hl = absurd (omega arith)
+unhex_more bs (c ∷ (d ∷ [])) rest n eh hh el hl = grind (arith, nat_tests)
+unhex_more bs (c ∷ (d ∷ (x ∷ v))) rest n eh hh el hl = absurd (omega arith)
 
-  pub unhex_more : (bs : List ℕ) (h l : ℕ) → nibble (get_or v (2 * i) 0) ≡ h → h < 16 → nibble (get_or v (2 * i + 1) 0) ≡ l → l < 16 → unhex bs (drop (2 * i) v) ≡ unhex (bs ++ ((16 * h + l) ∷ [])) (drop (2 * (i + 1)) v)
-  unhex_more bs h l eh hh el hl =
-      ap (unhex bs) pair ∙ cond-true (ltb (nibble (get_or v (2 * i) 0)) 16 && ltb (nibble (get_or v (2 * i + 1) 0)) 16) _ None (and_from _ _ (lt-ltb (nibble (get_or v (2 * i) 0)) 16 (omega arith)) (lt-ltb (nibble (get_or v (2 * i + 1) 0)) 16 (omega arith))) ∙ ap (λ n. unhex (bs ++ (n ∷ [])) (drop (2 * (i + 1)) v)) (omega arith)
-
-  pub unhex_stop_high : (bs : List ℕ) → nibble (get_or v (2 * i) 0) ≡ 16 → unhex bs (drop (2 * i) v) ≡ None
-  unhex_stop_high bs e =
-      ap (unhex bs) pair ∙ ap (λ b. cond (b && ltb (nibble (get_or v (2 * i + 1) 0)) 16) (unhex (bs ++ ((16 * nibble (get_or v (2 * i) 0) + nibble (get_or v (2 * i + 1) 0)) ∷ [])) (drop (2 * (i + 1)) v)) None) (le-ltb (nibble (get_or v (2 * i) 0)) 16 (omega arith))
-
-  pub unhex_stop_low : (bs : List ℕ) → nibble (get_or v (2 * i + 1) 0) ≡ 16 → unhex bs (drop (2 * i) v) ≡ None
-  unhex_stop_low bs e =
-      ap (unhex bs) pair ∙ cond-false (ltb (nibble (get_or v (2 * i) 0)) 16 && ltb (nibble (get_or v (2 * i + 1) 0)) 16) _ None (and_right (ltb (nibble (get_or v (2 * i) 0)) 16) _ (le-ltb (nibble (get_or v (2 * i + 1) 0)) 16 (omega arith)))
+pub unhex_stop : (bs pair rest : List ℕ) → length pair ≡ 2 → (nibble (get_or pair 0 0) ≡ 16) ⊎ (nibble (get_or pair 1 0) ≡ 16) → unhex bs (pair ++ rest) ≡ None
+unhex_stop bs [] rest n e = absurd (omega arith)
+unhex_stop bs (c ∷ []) rest n e = absurd (omega arith)
+unhex_stop bs (c ∷ (d ∷ [])) rest n e = grind (arith, nat_tests)
+unhex_stop bs (c ∷ (d ∷ (x ∷ v))) rest n e = absurd (omega arith)
 
 -- no bytes: an odd number of digits, too many, or one of them is not a digit
 
@@ -64,6 +61,31 @@ pub length-hex : (bs : List ℕ) → length (hex bs) ≡ 2 * length bs
 length-hex [] = refl
 length-hex (b ∷ bs) = omega (arith, length-hex bs)
 
+pub length_hex_part : (a bytes : List ℕ) (i : ℕ) {o : List ℕ} → i ≤ length bytes → o ≡ a ++ hex (take i bytes) → length o ≡ length a + 2 * i
+length_hex_part a bytes i lt e =
+    omega (arith, ap length e, length-append a (hex (take i bytes)), length-hex (take i bytes), length-take-le i bytes lt)
+
+-- the library's table of digits has the same ones
+
+abbrev same_digits : ℕ → Bool
+same_digits zero = true
+same_digits (suc n) = eqb (get_or lower_digits n 0) (digit_char n) && same_digits n
+
+same_digit : (n d : ℕ) → same_digits n ≡ true → d < n → get_or lower_digits d 0 ≡ digit_char d
+same_digit zero d h lt = absurd (omega arith)
+same_digit (suc n) d h lt =
+    let p = and_parts (eqb (get_or lower_digits n 0) (digit_char n)) (same_digits n) h in
+    ⊎_elim (λ below. same_digit n d p.1 below) (λ top. let e : d ≡ n = omega arith in rw e (eqb-true _ _ p.0)) (cases_lt d n)
+
+pub encode_lower_is_hex : (bs : List ℕ) → AreBytes bs → encode_lower bs ≡ hex bs
+unfolding encode_with
+encode_lower_is_hex [] h = refl
+encode_lower_is_hex (b ∷ bs) h =
+    let small = h 0 in
+    let high = same_digit 16 (b / 16) refl (omega arith) in
+    let low = same_digit 16 (b % 16) refl (omega arith) in
+    λ i. high i ∷ (low i ∷ encode_lower_is_hex bs (λ k. h (suc k)) i)
+
 -- the two are inverse
 
 nibble_of : (d : ℕ) → d < 16 → nibble (digit_char d) ≡ d
@@ -73,15 +95,15 @@ nibble_of d h =
     (λ g. ap nibble (cond-false (ltb d 10) (48 + d) (87 + d) (le-ltb d 10 g)) ∙ rw (le-leb 48 (87 + d) (omega arith), lt-leb (87 + d) 57 (omega arith), le-leb 97 (87 + d) (omega arith), le-leb (87 + d) 102 (omega arith)) (omega arith))
     (cases_lt d 10)
 
-unhex-hex : (bs ys : List ℕ) → All (λ b. b < 256) ys → unhex bs (hex ys) ≡ Some (bs ++ ys)
+unhex-hex : (bs ys : List ℕ) → AreBytes ys → unhex bs (hex ys) ≡ Some (bs ++ ys)
 unhex-hex bs [] h = ap Some (sym (append-nil bs))
 unhex-hex bs (y ∷ ys) h =
-    let small = h.0 in
+    let small = h 0 in
     let eh = nibble_of (y / 16) (omega arith) in
     let el = nibble_of (y % 16) (omega arith) in
     let both : (ltb (nibble (digit_char (y / 16))) 16 && ltb (nibble (digit_char (y % 16))) 16) ≡ true = and_from _ _ (lt-ltb (nibble (digit_char (y / 16))) 16 (omega arith)) (lt-ltb (nibble (digit_char (y % 16))) 16 (omega arith)) in
     let same : 16 * nibble (digit_char (y / 16)) + nibble (digit_char (y % 16)) ≡ y = omega arith in
-    cond-true (ltb (nibble (digit_char (y / 16))) 16 && ltb (nibble (digit_char (y % 16))) 16) _ None both ∙ ap (λ x. unhex (bs ++ (x ∷ [])) (hex ys)) same ∙ unhex-hex (bs ++ (y ∷ [])) ys h.1 ∙ ap Some (append_assoc bs (y ∷ []) ys)
+    cond-true (ltb (nibble (digit_char (y / 16))) 16 && ltb (nibble (digit_char (y % 16))) 16) _ None both ∙ ap (λ x. unhex (bs ++ (x ∷ [])) (hex ys)) same ∙ unhex-hex (bs ++ (y ∷ [])) ys (λ k. h (suc k)) ∙ ap Some (append_assoc bs (y ∷ []) ys)
 
 char_of : (c : ℕ) → ltb (nibble c) 16 ≡ true → digit_char (nibble c) ≡ c
 char_of c e = go (is_in_range 48 57 c) (is_in_range 97 102 c) refl refl (ltb-true (cond (is_in_range 48 57 c) (c - 48) (cond (is_in_range 97 102 c) (c - 87) 16)) 16 e)
@@ -98,26 +120,32 @@ char_of c e = go (is_in_range 48 57 c) (is_in_range 97 102 c) refl refl (ltb-tru
         rw (le-ltb (c - 87) 10 (omega arith)) (omega arith)
     go false false i j h = absurd (omega arith)
 
-unhex_is_hex : (bs v : List ℕ) {out : List ℕ} → unhex bs v ≡ Some out → (ys : List ℕ) × (out ≡ bs ++ ys) × (v ≡ hex ys)
-unhex_is_hex bs [] {out} e = let i : bs ≡ out = cc in ([], sym i ∙ sym (append-nil bs), refl)
+bytes_cons : (b : ℕ) (bs : List ℕ) → b < 256 → AreBytes bs → AreBytes (b ∷ bs)
+bytes_cons b bs h all zero = h
+bytes_cons b bs h all (suc k) = all k
+
+unhex_is_hex : (bs v : List ℕ) {out : List ℕ} → unhex bs v ≡ Some out → (ys : List ℕ) × (out ≡ bs ++ ys) × (v ≡ hex ys) × AreBytes ys
+unhex_is_hex bs [] {out} e = let i : bs ≡ out = cc in ([], sym i ∙ sym (append-nil bs), refl, λ k. omega arith)
 unhex_is_hex bs (c ∷ []) e = let z : ◌≡◌ {A = ℕ} 0 1 = cc in absurd (omega arith)
 unhex_is_hex bs (c ∷ (d ∷ v)) {out} e = go (λ o. unhex_is_hex (bs ++ ((16 * nibble c + nibble d) ∷ [])) v {out = o}) (ltb (nibble c) 16 && ltb (nibble d) 16) refl e
   where
-    go : ((out : List ℕ) → unhex (bs ++ ((16 * nibble c + nibble d) ∷ [])) v ≡ Some out → (ys : List ℕ) × (out ≡ (bs ++ ((16 * nibble c + nibble d) ∷ [])) ++ ys) × (v ≡ hex ys)) → (b : Bool) → (ltb (nibble c) 16 && ltb (nibble d) 16) ≡ b → cond b (unhex (bs ++ ((16 * nibble c + nibble d) ∷ [])) v) None ≡ Some out → (ys : List ℕ) × (out ≡ bs ++ ys) × (c ∷ (d ∷ v) ≡ hex ys)
+    go : ((out : List ℕ) → unhex (bs ++ ((16 * nibble c + nibble d) ∷ [])) v ≡ Some out → (ys : List ℕ) × (out ≡ (bs ++ ((16 * nibble c + nibble d) ∷ [])) ++ ys) × (v ≡ hex ys) × AreBytes ys) → (b : Bool) → (ltb (nibble c) 16 && ltb (nibble d) 16) ≡ b → cond b (unhex (bs ++ ((16 * nibble c + nibble d) ∷ [])) v) None ≡ Some out → (ys : List ℕ) × (out ≡ bs ++ ys) × (c ∷ (d ∷ v) ≡ hex ys) × AreBytes ys
     go ih false t h = let z : ◌≡◌ {A = ℕ} 0 1 = cc in absurd (omega arith)
     go ih true t h =
         let x = 16 * nibble c + nibble d in
         let q = and_parts (ltb (nibble c) 16) (ltb (nibble d) 16) t in
         let r = ih out h in
+        let cl = ltb-true (nibble c) 16 q.0 in
         let dl = ltb-true (nibble d) 16 q.1 in
         let high : nibble c ≡ x / 16 = omega arith in
         let low : nibble d ≡ x % 16 = omega arith in (
           x ∷ r.0,
           r.1 ∙ append_assoc bs (x ∷ []) r.0,
           λ i. (sym (char_of c q.0) ∙ ap digit_char high) i ∷ ((sym (char_of d q.1) ∙ ap digit_char low) i ∷ r.2 i),
+          bytes_cons x r.0 (omega arith) r.3,
         )
 
-pub hex_is_read : (n : ℕ) (bs : List ℕ) → length bs ≤ n → All (λ b. b < 256) bs → hex_within n (hex bs) ≡ Some bs
+pub hex_is_read : (n : ℕ) (bs : List ℕ) → length bs ≤ n → AreBytes bs → hex_within n (hex bs) ≡ Some bs
 hex_is_read n bs h small = hex_within_some n (hex bs) (omega (arith, length-hex bs)) (unhex-hex [] bs small)
 
 pub hex_within_is_hex : (n : ℕ) (v : List ℕ) {bs : List ℕ} → hex_within n v ≡ Some bs → v ≡ hex bs
@@ -127,5 +155,9 @@ hex_within_is_hex n v {bs} e = go (leb (length v / 2) n) e
     go false h = let z : ◌≡◌ {A = ℕ} 0 1 = cc in absurd (omega arith)
     go true h = let r = unhex_is_hex [] v h in r.2 ∙ ap hex (sym r.1)
 
-pub digit_ascii : (d : ℕ) → d < 16 → digit_char d < 128
-digit_ascii d h = cond_both (ltb d 10) (48 + d) (87 + d) (λ c. c < 128) (λ e. omega (arith, ltb-true d 10 e)) (λ e. omega arith)
+pub hex_within_bytes : (n : ℕ) (v : List ℕ) {bs : List ℕ} → hex_within n v ≡ Some bs → AreBytes bs
+hex_within_bytes n v {bs} e = go (leb (length v / 2) n) e
+  where
+    go : (b : Bool) → cond b (unhex [] v) None ≡ Some bs → AreBytes bs
+    go false h = let z : ◌≡◌ {A = ℕ} 0 1 = cc in absurd (omega arith)
+    go true h = let r = unhex_is_hex [] v h in subst AreBytes (sym r.1) r.3

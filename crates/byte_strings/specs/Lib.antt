@@ -1,3 +1,4 @@
 pub mod Decimal
 pub mod Hexadecimal
+pub mod Padding
 pub mod Strings

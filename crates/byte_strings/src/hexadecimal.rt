@@ -1,46 +1,41 @@
 // Bytes as hexadecimal text: two lower-case digits to a byte, the high one first.
-ghost use Rattle.std.specs.Prelude.{◌≡◌, ◌<◌, ◌++◌, length, MatchOption, nat_le};
+ghost use Rattle.std.specs.Prelude.{◌≡◌, ◌<◌, MatchOption};
 ghost use Rattle.std.specs.Char.{digit_char};
 ghost use Rattle.byte_strings.specs.Hexadecimal.{hex, nibble, hex_within};
-ghost use Rattle.byte_strings.specs.Strings.{listed, listing, appended};
+ghost use Rattle.byte_strings.specs.Strings.{append_answer, appended};
 
-use crate::Bytes;
+use crate::{Bytes, TooLong};
 
 impl<const N: usize> Bytes<N> {
     // The bytes that pairs of hexadecimal digits write, where N are enough.
     pub fn from_hex(digits: &[u8]) -> Option<Bytes<N>>
-        ensures { listing result ≡ hex_within N digits.now }
+        ensures { result ≡ hex_within N digits.now }
     {
-        let size = digits.len() / 2;
-        if digits.len() % 2 != 0 || size > N {
+        if digits.len() % 2 != 0 || digits.len() / 2 > N {
             return None;
         }
         let mut bytes = Bytes::new();
-        for i in 0..size {
-            let Some(high) = hex_digit(digits[2 * i]) else {
-                return None;
-            };
-            let Some(low) = hex_digit(digits[2 * i + 1]) else {
-                return None;
-            };
+        for pair in digits.chunks_exact(2) {
+            let high = hex_digit(pair[0])?;
+            let low = hex_digit(pair[1])?;
             bytes.push(16 * high + low);
         }
         Some(bytes)
     }
 
     // Adds the hexadecimal digits of the bytes, all or none, as `append` does.
-    pub fn append_hex(&mut self, bytes: &[u8]) -> bool
-        ensures answer { result ≡ nat_le (length (listed self.old ++ hex bytes.now)) N }
-        ensures after { listed self.new ≡ appended N (listed self.old) (hex bytes.now) }
+    pub fn append_hex(&mut self, bytes: &[u8]) -> Result<(), TooLong>
+        ensures answer { result ≡ append_answer N self.old (hex bytes.now) }
+        ensures after { self.new ≡ appended N self.old (hex bytes.now) }
     {
-        if bytes.len() > (N - self.len) / 2 {
-            return false;
+        if bytes.len() > (N - self.len()) / 2 {
+            return Err(TooLong);
         }
         for b in bytes {
             self.push(hex_char(*b / 16));
             self.push(hex_char(*b % 16));
         }
-        true
+        Ok(())
     }
 }
 
@@ -56,7 +51,7 @@ fn hex_digit(c: u8) -> Option<u8>
 }
 
 // The lower-case hexadecimal digit of a number below 16.
-pub(crate) fn hex_char(d: u8) -> u8
+fn hex_char(d: u8) -> u8
     requires { d < 16 }
     ensures { result ≡ digit_char d }
 {

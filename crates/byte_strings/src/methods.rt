@@ -1,17 +1,13 @@
 // Making, reading and extending a byte string.
-ghost use Rattle.std.specs.Prelude.{◌≡◌, ◌+◌, ◌<◌, [], ◌∷◌, ◌++◌, length, Decides, nat_eq, nat_le};
-ghost use Rattle.byte_strings.specs.Strings.{listed, listing, within, appended};
-ghost use Rattle.std.specs.Cmp.Rules.{comparing};
-ghost use Rattle.std.proofs.Common.{rules};
-ghost use Rattle.std.specs.Cmp.Lexicographic.{pointwise};
-ghost use Rattle.std.specs.Ordering.{on};
+ghost use Rattle.std.specs.Prelude.{◌≡◌, ℕ, ◌<◌, ◌≤◌, List, Decides, [], ◌∷◌, ◌++◌, length};
+ghost use Rattle.byte_strings.specs.Strings.{copied, append_answer, appended};
 
-use crate::Bytes;
+use crate::{Bytes, TooLong};
 
 impl<const N: usize> Bytes<N> {
     // The empty string.
     pub fn new() -> Bytes<N>
-        ensures { listed result ≡ [] }
+        ensures { result ≡ [] }
     {
         Bytes {
             all: [0; N],
@@ -19,66 +15,59 @@ impl<const N: usize> Bytes<N> {
         }
     }
 
-    // A copy of the bytes, where N are enough.
-    pub fn from_slice(bytes: &[u8]) -> Option<Bytes<N>>
-        ensures { listing result ≡ within N bytes.now }
-    {
-        let mut copy = Bytes::new();
-        if copy.append(bytes) { Some(copy) } else { None }
-    }
-
     pub fn len(&self) -> usize
-        ensures { result ≡ length (listed self.now) }
+        ensures len { result ≡ length self.now }
+        ensures fits { result ≤ N }
     {
         self.as_slice().len()
     }
 
     pub fn as_slice(&self) -> &[u8]
-        ensures { result.now ≡ listed self.now }
+        ensures bytes { result.now ≡ self.now }
+        ensures fits { length self.now ≤ N }
     {
-        let all = &self.all[..];
-        &all[0..self.len]
+        &self.all[..self.len]
     }
 
-    // Adds the bytes at the end and says true; where they do not fit, adds none of them and says false.
-    pub fn append(&mut self, more: &[u8]) -> bool
-        ensures answer { result ≡ nat_le (length (listed self.old ++ more.now)) N }
-        ensures after { listed self.new ≡ appended N (listed self.old) more.now }
+    // Adds the bytes at the end, or where they do not fit, none of them.
+    pub fn append(&mut self, more: &[u8]) -> Result<(), TooLong>
+        ensures answer { result ≡ append_answer N self.old more.now }
+        ensures after { self.new ≡ appended N self.old more.now }
     {
         if more.len() > N - self.len {
-            return false;
+            return Err(TooLong);
         }
-        for b in more {
-            self.push(*b);
-        }
-        true
+        let end = self.len + more.len();
+        let all = &mut self.all[..];
+        all[self.len..end].copy_from_slice(more);
+        self.len = end;
+        Ok(())
     }
 
     // Adds a byte at the end.
     pub(crate) fn push(&mut self, b: u8)
-        requires { self.old.len < N }
-        ensures len { self.new.len ≡ self.old.len + 1 }
-        ensures bytes { listed self.new ≡ listed self.old ++ b ∷ [] }
+        requires { length self.old < N }
+        ensures { self.new ≡ self.old ++ b ∷ [] }
     {
         self.all[self.len] = b;
         self.len += 1;
     }
 }
 
-impl<const N: usize> PartialEq for Bytes<N> {
-    ghost eq = { on listed (pointwise nat_eq) };
+// A copy of the bytes, where N are enough.
+impl<const N: usize> TryFrom<&[u8]> for Bytes<N> {
+    type Error = TooLong;
 
-    ghost laws = { Prim.search (comparing, rules) };
+    ghost try_from_gives = { λ bytes r. r ≡ copied N bytes.now };
 
-    // Whether they hold the same bytes: then they are the same value.
-    fn eq(&self, other: &Bytes<N>) -> bool
-        ensures value { result ≡ on listed (pointwise nat_eq) self.now other.now }
-        ensures same { Decides result (self.now ≡ other.now) }
-    {
-        self.as_slice() == other.as_slice()
+    fn try_from(bytes: &[u8]) -> Result<Bytes<N>, TooLong> {
+        let mut copy = Bytes::new();
+        copy.append(bytes)?;
+        Ok(copy)
     }
 }
 
-impl<const N: usize> Eq for Bytes<N> {
-    ghost laws = { Prim.search (comparing, rules) };
-}
+// `==` holds exactly between a string and itself.
+pub fn equality_is_identity<const N: usize>()
+    ensures { (a b : List ℕ) → Decides (⟦<Bytes<N> as PartialEq>⟧.eq a b) (a ≡ b) }
+{}

@@ -2,17 +2,11 @@
 ghost use Rattle.std.specs.Prelude.{◌≡◌, IfOk, string_bytes};
 ghost use Rattle.byte_strings.specs.Hexadecimal.{hex};
 
-use crate::hexadecimal::hex_char;
 use std::alloc::{AllocError, Global};
 
 // The hexadecimal digits of the bytes.
 pub fn hex_string(heap: Global, bytes: &[u8]) -> Result<String, AllocError>
     ensures { IfOk result (λ text. string_bytes text ≡ hex bytes.now) }
 {
-    let mut text = String::new(heap);
-    for b in bytes {
-        text.push(char::from(hex_char(*b / 16)))?;
-        text.push(char::from(hex_char(*b % 16)))?;
-    }
-    Ok(text)
+    hex::encode(heap, bytes)
 }

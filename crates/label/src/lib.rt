@@ -9,5 +9,6 @@ mod reading;
 mod rules;
 mod writing;
 
+pub use equality::equality_is_identity;
 pub use examples::label_examples_hold;
 pub use label::Label;

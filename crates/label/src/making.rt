@@ -40,13 +40,13 @@ impl Label {
         if salt.len() != rules::salt_length(variant) {
             return Err(Fault::new(Refusal::LineForm, 8));
         }
-        let Some(salt) = Bytes::from_slice(salt) else {
+        let Ok(salt) = Bytes::try_from(salt) else {
             return Err(Fault::new(Refusal::LineForm, 8));
         };
         if !rules::is_layout_name(variant, layout) {
             return Err(Fault::new(Refusal::LineForm, 9));
         }
-        let Some(layout) = Bytes::from_slice(layout) else {
+        let Ok(layout) = Bytes::try_from(layout) else {
             return Err(Fault::new(Refusal::LineForm, 9));
         };
         Ok(Label {

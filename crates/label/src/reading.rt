@@ -1,6 +1,5 @@
 // Reading a label from its text.
 ghost use Rattle.std.specs.Prelude.{◌≡◌, ℕ, true, length, IfOk, Ok};
-ghost use Rattle.byte_strings.specs.Strings.{listed};
 ghost use Rattle.lines.specs.Lines.{read_line, Answers};
 ghost use Rattle.label.specs.Labels.{variant_line, read_layout, front_answer, read_answer};
 ghost use Rattle.label.specs.Meaning.{parts, meant, label_text, Exactly, Begins};
@@ -23,13 +22,13 @@ fn variant<'a>(text: &'a [u8], line: usize, name: &[u8]) -> Result<(Variant, &'a
 }
 
 fn layout_name(value: &[u8], line: usize, variant: Variant) -> Result<Bytes<16>, Fault>
-    ensures answer { Answers result listed (read_layout line variant value.now) }
-    ensures rules { IfOk result (λ b. layout_name variant (listed b) ≡ true) }
+    ensures answer { result ≡ read_layout line variant value.now }
+    ensures rules { IfOk result (λ b. layout_name variant b ≡ true) }
 {
     if !rules::is_layout_name(variant, value) {
         return Err(Fault::new(Refusal::LineForm, line));
     }
-    Bytes::from_slice(value).ok_or(Fault::new(Refusal::LineForm, line))
+    Bytes::try_from(value).map_err(|_| Fault::new(Refusal::LineForm, line))
 }
 
 // The label that the first nine lines of a text say, and how many bytes these lines are.

@@ -1,7 +1,6 @@
 // Writing the text of a label.
 ghost use Rattle.std.specs.Prelude.{◌≡◌, ◌+◌, ◌*◌, ◌<◌, ◌≤◌, [], ◌++◌, length, decimal};
 ghost use Rattle.byte_strings.specs.Hexadecimal.{hex};
-ghost use Rattle.byte_strings.specs.Strings.{listed};
 ghost use Rattle.lines.specs.Lines.{line_then};
 ghost use Rattle.label.specs.Labels.{write_answer, written};
 ghost use Rattle.label.specs.Meaning.{parts, label_text};
@@ -15,41 +14,41 @@ const ROOM: usize = 146;
 
 // Adds a line with this value.
 fn put(out: &mut Bytes<ROOM>, name: &[u8], value: &[u8])
-    requires { length (listed out.old) + length name.now + length value.now < 146 }
-    ensures length { length (listed out.new) ≤ length (listed out.old) + length name.now + length value.now + 1 }
-    ensures bytes { listed out.new ≡ listed out.old ++ line_then name.now value.now [] }
+    requires { length out.old + length name.now + length value.now < 146 }
+    ensures length { length out.new ≤ length out.old + length name.now + length value.now + 1 }
+    ensures bytes { out.new ≡ out.old ++ line_then name.now value.now [] }
 {
-    out.append(name);
-    out.append(value);
-    out.append(b"\n");
+    let _ = out.append(name);
+    let _ = out.append(value);
+    let _ = out.append(b"\n");
 }
 
 // Adds a line with a number.
 fn put_number(out: &mut Bytes<ROOM>, name: &[u8], n: u16)
-    requires { length (listed out.old) + length name.now + 5 < 146 }
-    ensures length { length (listed out.new) ≤ length (listed out.old) + length name.now + 6 }
-    ensures bytes { listed out.new ≡ listed out.old ++ line_then name.now (decimal n) [] }
+    requires { length out.old + length name.now + 5 < 146 }
+    ensures length { length out.new ≤ length out.old + length name.now + 6 }
+    ensures bytes { out.new ≡ out.old ++ line_then name.now (decimal n) [] }
 {
-    out.append(name);
-    out.append_decimal(n);
-    out.append(b"\n");
+    let _ = out.append(name);
+    let _ = out.append_decimal(n);
+    let _ = out.append(b"\n");
 }
 
 // Adds a line with bytes in hexadecimal digits.
 fn put_hex(out: &mut Bytes<ROOM>, name: &[u8], bytes: &[u8])
-    requires { length (listed out.old) + length name.now + 2 * length bytes.now < 146 }
-    ensures length { length (listed out.new) ≤ length (listed out.old) + length name.now + 2 * length bytes.now + 1 }
-    ensures bytes { listed out.new ≡ listed out.old ++ line_then name.now (hex bytes.now) [] }
+    requires { length out.old + length name.now + 2 * length bytes.now < 146 }
+    ensures length { length out.new ≤ length out.old + length name.now + 2 * length bytes.now + 1 }
+    ensures bytes { out.new ≡ out.old ++ line_then name.now (hex bytes.now) [] }
 {
-    out.append(name);
-    out.append_hex(bytes);
-    out.append(b"\n");
+    let _ = out.append(name);
+    let _ = out.append_hex(bytes);
+    let _ = out.append(b"\n");
 }
 
 impl Label {
     // The nine lines.
     pub fn text(&self) -> Bytes<ROOM>
-        ensures { listed result ≡ label_text self.now }
+        ensures { result ≡ label_text self.now }
     {
         let mut out = Bytes::new();
         put(&mut out, b"kind=seal", b"");

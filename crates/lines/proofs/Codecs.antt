@@ -1,20 +1,20 @@
 -- The kinds of lines: what each reads is what it writes.
-use Rattle.std.proofs.Common.{◌≡◌, ℕ, ◌/◌, ◌%◌, ◌<◌, ◌≤◌, Bool, true, false, cond, not, eqb, List, [], ◌∷◌, length, Some, None, Ok, decimal, Option, refl, ap, ◌∙◌, ⊎_elim, arith}
+use Rattle.std.proofs.Common.{◌≡◌, ℕ, ◌/◌, ◌%◌, ◌<◌, ◌≤◌, Bool, true, false, cond, not, eqb, List, [], ◌∷◌, length, Some, None, Ok, decimal, Option, refl, ap, subst, ◌∙◌, ⊎_elim, arith}
 use Rattle.std.proofs.lemmas.Fmt.{digits_decimal}
 use Rattle.std.proofs.ByRecursion.{All-from_get_or}
 use Rattle.std.proofs.lemmas.Str.Parse.{numerals_by_value, tells_all_ascii_digits, not_in_digits}
 use Rattle.std.proofs.lemmas.Bool.{eq-eqb, cases_lt, lt-ltb, le-ltb, cond-true}
 use Rattle.std.specs.Char.{digit_char}
-use Rattle.std.specs.List.{AllByRecursion as All}
 use Rattle.std.specs.Str.{all_ascii_digits}
 use Rattle.byte_strings.proofs.Decimals.{decimal_is_read, numbered_is_decimal}
-use Rattle.byte_strings.proofs.Hexadecimals.{hex_is_read, hex_within_is_hex}
+use Rattle.byte_strings.proofs.Hexadecimals.{hex_is_read, hex_within_is_hex, hex_within_bytes}
 use Rattle.byte_strings.specs.Decimal.{numbered}
 use Rattle.byte_strings.specs.Hexadecimal.{hex, hex_within}
+use Rattle.byte_strings.specs.Strings.{AreBytes}
 use Rattle.fault.specs.Faults.{on, unless}
 use Rattle.fault.specs.declared.refusal.Refusal.TheVariants.{NumberRange}
 use Rattle.lines.specs.declared.range.Range.{Range}
-use Rattle.lines.specs.Lines.{Line, then, formed, nothing, inside, exactly, fixed_line, number_line, bytes_line}
+use Rattle.lines.specs.Lines.{Line, read_bytes, then, formed, nothing, inside, exactly, fixed_line, number_line, bytes_line}
 use Rattle.lines.proofs.Cuts.{Clean, never_ok, never_some, then_back, formed_back}
 
 -- A line is faithful if what it reads is what it writes, and has x if it reads x from what it writes of x. Its name does not matter for either.
@@ -73,8 +73,21 @@ hex_clean (b ∷ bs) = (λ e. omega (arith, large (b / 16)), (λ e. omega (arith
     large : (d : ℕ) → 48 ≤ digit_char d
     large d = ⊎_elim (λ h. rw (lt-ltb d 10 h) (omega arith)) (λ h. rw (le-ltb d 10 h) (omega arith)) (cases_lt d 10)
 
-pub bytes_has : (n : ℕ) (most size : ℕ) (bs : List ℕ) → size ≤ most → length bs ≡ size → All (λ b. b < 256) bs → Has (bytes_line n [] most size) bs
+pub bytes_has : (n : ℕ) (most size : ℕ) (bs : List ℕ) → size ≤ most → length bs ≡ size → AreBytes bs → Has (bytes_line n [] most size) bs
 bytes_has n most size bs le e small = (
   hex_clean bs,
   ap (λ o. formed n (exactly size o)) (hex_is_read most bs (omega arith) small) ∙ ap (formed n) (cond-true (eqb (length bs) size) (Some bs) None (eq-eqb (length bs) size e)),
 )
+
+-- what is read are bytes
+pub bytes_small : (n most size : ℕ) (v : List ℕ) {bs : List ℕ} → read_bytes n most size v ≡ Ok bs → AreBytes bs
+bytes_small n most size v {bs} h =
+    go (hex_within most v) refl (formed_back n (exactly size (hex_within most v)) h)
+  where
+    go : (o : Option (List ℕ)) → hex_within most v ≡ o → exactly size o ≡ Some bs → AreBytes bs
+    go None e i = absurd (never_some i)
+    go (Some w) e i = same (eqb (length w) size) i
+      where
+        same : (b : Bool) → cond b (Some w) None ≡ Some bs → AreBytes bs
+        same true j = let z : w ≡ bs = cc in subst AreBytes z (hex_within_bytes most v e)
+        same false j = absurd (never_some j)

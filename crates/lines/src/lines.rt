@@ -1,6 +1,5 @@
 // The lines of a text, each taken off its front. A reader is told the number of its line, for the refusal.
 ghost use Rattle.std.specs.Prelude.{◌≡◌, ◌≤◌, length, IfOk, Some, None, MatchOption};
-ghost use Rattle.byte_strings.specs.Strings.{listed};
 ghost use Rattle.lines.specs.Lines.{cut, valued, fixed_line, number_line, read_bytes, read_line, Answers, end_answer};
 
 use crate::Range;
@@ -69,8 +68,8 @@ pub fn hexadecimal<const N: usize>(
     line: usize,
     size: usize,
 ) -> Result<Bytes<N>, Fault>
-    ensures answer { Answers result listed (read_bytes line N size value.now) }
-    ensures size { IfOk result (λ b. length (listed b) ≡ size) }
+    ensures answer { result ≡ read_bytes line N size value.now }
+    ensures size { IfOk result (λ b. length b ≡ size) }
 {
     let Some(bytes) = Bytes::from_hex(value) else {
         return Err(Fault::new(Refusal::LineForm, line));

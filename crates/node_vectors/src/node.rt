@@ -20,8 +20,8 @@ struct Node {
 // Hashes the node of a line, and prints its digest and blocks.
 pub(crate) fn answer(rt: &HostRuntime, line: &str) -> anyhow::Result<()> {
     let node = Node::read(rt.alloc(), line)?;
-    match node.label {
-        Ok(label) => node.print(rt, label)?,
+    match &node.label {
+        Ok(label) => node.print(rt, *label)?,
         Err(fault) => println!(rt; "refused {fault}")?,
     }
     Ok(())

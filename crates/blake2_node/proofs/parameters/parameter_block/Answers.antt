@@ -16,4 +16,4 @@ returns c =
     c.new-block.ensures c.put.ensures c.put-2.ensures c.put-3.ensures c.put-4.ensures c.put-5.ensures c.put-6.ensures c.put-7.ensures
     (four ∙ ap (le_bytes 4) c.from-2.ensures)
     (offset_bytes v _ c.args.position.offset _ (ap (λ n. n.0) c.lengths-offset_length.ensures.lengths) (eight ∙ ap (le_bytes 8) c.from.ensures))
-    (some_zeros v _ (ap (λ n. n.1) c.lengths-offset_length.ensures.lengths)) c.as_slice.ensures c.as_slice-2.ensures)
+    (some_zeros v _ (ap (λ n. n.1) c.lengths-offset_length.ensures.lengths)) c.as_slice.ensures.bytes c.as_slice-2.ensures.bytes)

@@ -1,4 +1,5 @@
-use Rattle.std.proofs.Common.{sym, ap, ◌∙◌, subst, arith}
+use Rattle.std.proofs.Common.{◌≤◌, length, sym, ap, ◌∙◌, subst, arith}
+use Rattle.std.proofs.lemmas.Bool.Decides.{nat_tests}
 use Rattle.std.proofs.lemmas.List.{take_all}
 use Rattle.std.specs.Str.Parse.{digits_value, AllDigits}
 use Rattle.byte_strings.proofs.Decimals.{numbered_none, numbered_some, short_value, one_more}
@@ -8,6 +9,7 @@ pub returns : goal.returns
 returns c =
     let v = c.args.digits.now in
     let all = take_all c.loop-d.d-index v (omega arith) in
+    let some : 1 ≤ length v = grind (arith, nat_tests) in
     sym (numbered_some v c.loop-d.n (subst (AllDigits 10) all c.loop-d.invariant.0) (c.loop-d.invariant.1 ∙ ap (digits_value 10) all) (omega arith) (omega arith) (sym c.if-has_leading_zero.ensures))
 
 pub returns-then-not-is_ascii_digit : goal.returns-then-not-is_ascii_digit

@@ -1,6 +1,6 @@
-use Rattle.std.proofs.Common.{codes, ◌∙◌}
+use Rattle.std.proofs.Common.{codes, sym, ◌∙◌}
 use Rattle.std.proofs.lemmas.Result.{err_from_is_err_and}
-use Rattle.byte_strings.specs.Strings.{listed}
+use Rattle.lines.proofs.Codecs.{bytes_small}
 use Rattle.lines.proofs.Cuts.{value_read, value_refused, value_missing}
 use Rattle.lines.proofs.Formats.{accepted, refused}
 use Rattle.lines.specs.Lines.{bytes_line}
@@ -109,7 +109,7 @@ returns-in_err-salt-2 c =
     let p = err_from_is_err_and c.from_residual-in_err-salt-2.result c.from_residual-in_err-salt-2.ensures.1 in
     rw (p.1, p.2)
     (front_stops c.args.text.now
-    (refused _ (value_refused (bytes_line 8 (codes "salt=") 16 (salt_length_of c.in_ok-variant.variant)) _ c.in_ok-salt.ensures (rw c.salt_length.ensures.0 at c.in_err-salt-2.ensures.answer))
+    (refused _ (value_refused (bytes_line 8 (codes "salt=") 16 (salt_length_of c.in_ok-variant.variant)) _ c.in_ok-salt.ensures (sym (rw c.salt_length.ensures.0 at c.in_err-salt-2.ensures.answer)))
     (accepted _ c.in_ok-page.ensures.answer
     (accepted _ c.in_ok-depth.ensures.answer
     (accepted _ c.in_ok-fanout.ensures.answer
@@ -125,7 +125,7 @@ returns-in_err-layout c =
     rw (p.1, p.2)
     (front_stops c.args.text.now
     (refused _ (value_missing (layout_line 9 (codes "layout=") c.in_ok-variant.variant) _ c.in_err-layout.ensures)
-    (accepted _ (value_read (bytes_line 8 (codes "salt=") 16 (salt_length_of c.in_ok-variant.variant)) _ c.in_ok-salt.ensures (rw c.salt_length.ensures.0 at c.in_ok-salt-2.ensures.answer))
+    (accepted _ (value_read (bytes_line 8 (codes "salt=") 16 (salt_length_of c.in_ok-variant.variant)) _ c.in_ok-salt.ensures (sym (rw c.salt_length.ensures.0 at c.in_ok-salt-2.ensures.answer)))
     (accepted _ c.in_ok-page.ensures.answer
     (accepted _ c.in_ok-depth.ensures.answer
     (accepted _ c.in_ok-fanout.ensures.answer
@@ -140,8 +140,8 @@ returns-in_err-layout-2 c =
     let p = err_from_is_err_and c.from_residual-in_err-layout-2.result c.from_residual-in_err-layout-2.ensures.1 in
     rw (p.1, p.2)
     (front_stops c.args.text.now
-    (refused _ (value_refused (layout_line 9 (codes "layout=") c.in_ok-variant.variant) _ c.in_ok-layout.ensures c.in_err-layout-2.ensures.answer)
-    (accepted _ (value_read (bytes_line 8 (codes "salt=") 16 (salt_length_of c.in_ok-variant.variant)) _ c.in_ok-salt.ensures (rw c.salt_length.ensures.0 at c.in_ok-salt-2.ensures.answer))
+    (refused _ (value_refused (layout_line 9 (codes "layout=") c.in_ok-variant.variant) _ c.in_ok-layout.ensures (sym c.in_err-layout-2.ensures.answer))
+    (accepted _ (value_read (bytes_line 8 (codes "salt=") 16 (salt_length_of c.in_ok-variant.variant)) _ c.in_ok-salt.ensures (sym (rw c.salt_length.ensures.0 at c.in_ok-salt-2.ensures.answer)))
     (accepted _ c.in_ok-page.ensures.answer
     (accepted _ c.in_ok-depth.ensures.answer
     (accepted _ c.in_ok-fanout.ensures.answer
@@ -155,8 +155,8 @@ returns-in_err-layout-2 c =
 pub overflow_sub-result : goal.overflow_sub-result
 overflow_sub-result c =
     rest_shorter c.args.text.now
-    (accepted _ (value_read (layout_line 9 (codes "layout=") c.in_ok-variant.variant) _ c.in_ok-layout.ensures c.in_ok-layout-2.ensures.answer)
-    (accepted _ (value_read (bytes_line 8 (codes "salt=") 16 (salt_length_of c.in_ok-variant.variant)) _ c.in_ok-salt.ensures (rw c.salt_length.ensures.0 at c.in_ok-salt-2.ensures.answer))
+    (accepted _ (value_read (layout_line 9 (codes "layout=") c.in_ok-variant.variant) _ c.in_ok-layout.ensures (sym c.in_ok-layout-2.ensures.answer))
+    (accepted _ (value_read (bytes_line 8 (codes "salt=") 16 (salt_length_of c.in_ok-variant.variant)) _ c.in_ok-salt.ensures (sym (rw c.salt_length.ensures.0 at c.in_ok-salt-2.ensures.answer)))
     (accepted _ c.in_ok-page.ensures.answer
     (accepted _ c.in_ok-depth.ensures.answer
     (accepted _ c.in_ok-fanout.ensures.answer
@@ -170,7 +170,7 @@ pub invariant_of-label : goal.invariant_of-label
 invariant_of-label c =
     let digest = rw c.digest_range.ensures at c.in_ok-digest.ensures.range in
     let key = rw c.key_range.ensures at c.in_ok-key.ensures.range in
-    let name = name_rules c.in_ok-variant.variant (listed c.in_ok-layout-2.layout) c.in_ok-layout-2.ensures.rules in
+    let name = name_rules c.in_ok-variant.variant c.in_ok-layout-2.layout c.in_ok-layout-2.ensures.rules in
     record {
       digest_low = digest.0;
       digest_high = digest.1;
@@ -182,6 +182,7 @@ invariant_of-label c =
       page_low = c.in_ok-page.ensures.range.0;
       page_high = c.in_ok-page.ensures.range.1;
       salt_length = c.in_ok-salt-2.ensures.size ∙ c.salt_length.ensures.0;
+      salt_bytes = bytes_small 8 16 (salt_length_of c.in_ok-variant.variant) c.in_ok-salt.salt.now (sym (rw c.salt_length.ensures.0 at c.in_ok-salt-2.ensures.answer));
       layout_low = name.0;
       layout_high = name.1;
       layout_bytes = name.2;
@@ -190,8 +191,8 @@ invariant_of-label c =
 pub returns : goal.returns
 returns c =
     front_reads c.args.text.now
-    (accepted _ (value_read (layout_line 9 (codes "layout=") c.in_ok-variant.variant) _ c.in_ok-layout.ensures c.in_ok-layout-2.ensures.answer)
-    (accepted _ (value_read (bytes_line 8 (codes "salt=") 16 (salt_length_of c.in_ok-variant.variant)) _ c.in_ok-salt.ensures (rw c.salt_length.ensures.0 at c.in_ok-salt-2.ensures.answer))
+    (accepted _ (value_read (layout_line 9 (codes "layout=") c.in_ok-variant.variant) _ c.in_ok-layout.ensures (sym c.in_ok-layout-2.ensures.answer))
+    (accepted _ (value_read (bytes_line 8 (codes "salt=") 16 (salt_length_of c.in_ok-variant.variant)) _ c.in_ok-salt.ensures (sym (rw c.salt_length.ensures.0 at c.in_ok-salt-2.ensures.answer)))
     (accepted _ c.in_ok-page.ensures.answer
     (accepted _ c.in_ok-depth.ensures.answer
     (accepted _ c.in_ok-fanout.ensures.answer

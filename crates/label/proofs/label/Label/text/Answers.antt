@@ -1,6 +1,5 @@
 use Rattle.std.proofs.Common.{[], ◌++◌, codes, decimal, sym, refl, ap, ◌∙◌, append-nil}
 use Rattle.byte_strings.specs.Hexadecimal.{hex}
-use Rattle.byte_strings.specs.Strings.{listed}
 use Rattle.label.specs.Labels.{text}
 use Rattle.label.specs.Meaning.{label_text}
 use Rattle.label.proofs.Texts.{followed}
@@ -10,14 +9,14 @@ use Rattle.label.proofs.label.Label.text.Goals as goal
 pub returns : goal.returns
 unfolding text
 returns c =
-    sym (append-nil (listed c.put-3.new.out))
-    ∙ followed (listed c.put_hex.new.out) (codes "layout=") _ _ c.put-3.ensures.bytes c.as_slice-2.ensures
-    ∙ followed (listed c.put_number-5.new.out) (codes "salt=") _ _ c.put_hex.ensures.bytes (ap hex c.as_slice.ensures)
-    ∙ followed (listed c.put_number-4.new.out) (codes "page=") (decimal c.args.self.now.page) _ c.put_number-5.ensures.bytes refl
-    ∙ followed (listed c.put_number-3.new.out) (codes "depth=") _ _ c.put_number-4.ensures.bytes (ap decimal c.from-4.ensures)
-    ∙ followed (listed c.put_number-2.new.out) (codes "fanout=") _ _ c.put_number-3.ensures.bytes (ap decimal c.from-3.ensures)
-    ∙ followed (listed c.put_number.new.out) (codes "keybytes=") _ _ c.put_number-2.ensures.bytes (ap decimal c.from-2.ensures)
-    ∙ followed (listed c.put-2.new.out) (codes "digest=") _ _ c.put_number.ensures.bytes (ap decimal c.from.ensures)
-    ∙ followed (listed c.put.new.out) (codes "variant=") _ _ c.put-2.ensures.bytes c.letter.ensures
-    ∙ followed (listed c.new-out.result) (codes "kind=seal") [] _ c.put.ensures.bytes refl
+    sym (append-nil c.put-3.new.out)
+    ∙ followed c.put_hex.new.out (codes "layout=") _ _ c.put-3.ensures.bytes c.as_slice-2.ensures.bytes
+    ∙ followed c.put_number-5.new.out (codes "salt=") _ _ c.put_hex.ensures.bytes (ap hex c.as_slice.ensures.bytes)
+    ∙ followed c.put_number-4.new.out (codes "page=") (decimal c.args.self.now.page) _ c.put_number-5.ensures.bytes refl
+    ∙ followed c.put_number-3.new.out (codes "depth=") _ _ c.put_number-4.ensures.bytes (ap decimal c.from-4.ensures)
+    ∙ followed c.put_number-2.new.out (codes "fanout=") _ _ c.put_number-3.ensures.bytes (ap decimal c.from-3.ensures)
+    ∙ followed c.put_number.new.out (codes "keybytes=") _ _ c.put_number-2.ensures.bytes (ap decimal c.from-2.ensures)
+    ∙ followed c.put-2.new.out (codes "digest=") _ _ c.put_number.ensures.bytes (ap decimal c.from.ensures)
+    ∙ followed c.put.new.out (codes "variant=") _ _ c.put-2.ensures.bytes c.letter.ensures
+    ∙ followed c.new-out.result (codes "kind=seal") [] _ c.put.ensures.bytes refl
     ∙ ap (λ l. l ++ label_text c.args.self.now) c.new-out.ensures
