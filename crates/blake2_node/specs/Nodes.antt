@@ -1,5 +1,5 @@
 -- The digest of a node.
-use Rattle.std.specs.Prelude.{ℕ, Bool, false, cond, ◌&&◌, List, [], length, replicate, Some, None, Option, ◌==◌}
+use Rattle.std.specs.Prelude.{ℕ, Bool, false, if◌then◌else◌, ◌&&◌, List, [], length, replicate, Some, None, Option, ◌==◌}
 use Rattle.blake2.specs.Width.{Width, width_of}
 use Rattle.label.specs.Labels.{Parts}
 use Rattle.nodehash.specs.declared.position.Position.{Position}
@@ -8,7 +8,7 @@ use Rattle.blake2_node.specs.Parameters.{parameter_block}
 
 -- Only nodes of depth 0 have the key block.
 abbrev pub key_at : List ℕ → ℕ → List ℕ
-key_at key depth = cond (depth == 0) key []
+key_at key depth = if depth == 0 then key else []
 
 -- The digest of a node: the hash of its input under its own parameter block.
 unfoldable pub node_digest : Width → Parts → List ℕ → Position → Bool → List ℕ → List ℕ
@@ -31,7 +31,7 @@ key_bytes (Some key) = key
 -- The digest that a node hash gives: zeros, without a compression, where it does not fit.
 abbrev pub digest_of : Width → Parts → Option (List ℕ) → Position → Bool → List ℕ → List ℕ
 digest_of w p key position last input =
-    cond (fits w p key) (node_digest w p (key_bytes key) position last input) (replicate p.digest 0)
+    if fits w p key then node_digest w p (key_bytes key) position last input else replicate p.digest 0
 
 abbrev pub blocks_of : Width → Parts → Option (List ℕ) → ℕ → ℕ → ℕ
-blocks_of w p key depth n = cond (fits w p key) (node_blocks w (key_bytes key) depth n) 0
+blocks_of w p key depth n = if fits w p key then node_blocks w (key_bytes key) depth n else 0

@@ -3,7 +3,7 @@ use Rattle.std.proofs.Common.{◌≡◌, ℕ, ◌+◌, ◌-◌, ◌/◌, ◌<◌
 use native.Mathlib.Nat.{div_self}
 use Rattle.std.proofs.lemmas.Bool.{eq-eqb}
 use Rattle.nodehash.specs.Hashing.{depth_limit}
-use Rattle.tree.specs.Below.{first, or_else}
+use Rattle.tree.specs.Below.{first}
 use Rattle.tree.specs.Runs.{Making, check_rows, shape_in}
 use Rattle.tree.specs.Shapes.{layer_count, layer_size, root_layer}
 use Rattle.tree.proofs.Rows.{Passed}
@@ -15,7 +15,7 @@ one_group f h = let e : 1 + (f - 1) ≡ f = omega arith in let pos : 0 < f = ome
 
 module _ (m : Making) (five : FivePages m) where
   four_layers : layer_count (shape_in m) ≡ 4
-  unfolding layer_size layer_count root_layer first or_else
+  unfolding layer_size layer_count root_layer first
   four_layers = ap₂ (λ f n. layer_count (shaped f n)) five.fanout five.pages
 
   pub too_deep : (depth : ℕ) → depth_limit m.hash ≡ depth → ltb (depth_limit m.hash) (layer_count (shape_in m)) ≡ ltb depth 4

@@ -1,5 +1,5 @@
 -- What the figures speak of.
-use Rattle.std.specs.Prelude.{◌≡◌, ℕ, zero, suc, ◌<◌, Bool, true, false, cond, ◌||◌, List, [], ◌∷◌, ◌++◌, map, length, Some}
+use Rattle.std.specs.Prelude.{◌≡◌, ℕ, zero, suc, ◌<◌, Bool, false, if◌then◌else◌, IsTrue, IsFalse, ◌||◌, List, [], ◌∷◌, ◌++◌, map, length, Some}
 use Rattle.std.specs.List.{range_with_len}
 use Rattle.bench.specs.Buffers.{extent_over}
 use Rattle.blake2.specs.Width.{blake2b}
@@ -26,24 +26,15 @@ layer_sizes s = map (layer_size s) (range_with_len 0 (layer_count s))
 
 -- A making over five pages in groups of two, with which nothing but the depth can be wrong.
 pub record FivePages (m : Making) : Type 0 where
-  pub fit : m.hash.fit ≡ true
+  pub fit : IsTrue m.hash.fit
   pub pages : count m.image ≡ 5
   pub fanout : fanout_of m.hash ≡ 2
   pub page : m.image.size ≡ page_length m.hash
-  pub table : short (shape_in m) m.table ≡ false
+  pub table : IsFalse (short (shape_in m) m.table)
 
 -- the example's label, with a key of 16 bytes
 abbrev pub keyed : Parts
-keyed = record {
-  variant = example.variant;
-  digest = example.digest;
-  key = 16;
-  fanout = example.fanout;
-  depth = example.depth;
-  page = example.page;
-  salt = example.salt;
-  layout = example.layout;
-}
+keyed = record example { key = 16 }
 
 -- Any 10,000 bytes in pages of 1,024, under a label that says this and a key that is as long as it says.
 pub record TenPages (said : Parts) : Type 0 where
@@ -74,7 +65,7 @@ any_beneath f (p ∷ pages) k j = beneath f p k j || any_beneath f pages k j
 -- of the first n nodes of layer k, those above these pages
 unfoldable pub above_in_layer : ℕ → List ℕ → ℕ → ℕ → List Position
 above_in_layer f pages k zero = []
-above_in_layer f pages k (suc j) = above_in_layer f pages k j ++ cond (any_beneath f pages k j) (node k j ∷ []) []
+above_in_layer f pages k (suc j) = above_in_layer f pages k j ++ (if any_beneath f pages k j then node k j ∷ [] else [])
 
 -- of the nodes of the first n layers, those above these pages
 unfoldable pub above_in : Shape → List ℕ → ℕ → List Position

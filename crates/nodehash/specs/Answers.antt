@@ -1,5 +1,5 @@
 -- What the hash of a node answers, and what it leaves.
-use Rattle.std.specs.Prelude.{ℕ, Bool, cond, not, ◌||◌, List, [], ◌∷◌, length, is_ok, Result, ◌==◌, nat_lt}
+use Rattle.std.specs.Prelude.{ℕ, Bool, if◌then◌else◌, not, ◌||◌, List, [], ◌∷◌, length, is_ok, Result, ◌==◌, nat_lt}
 use Rattle.fault.specs.Faults.{Row, on, unless}
 use Rattle.fault.specs.declared.fault.Fault.{Fault}
 use Rattle.fault.specs.declared.refusal.Refusal.TheVariants.{NodeInput}
@@ -17,4 +17,4 @@ hash_answer h position n m = unless (hash_rows h n m) (h.blocks position.depth n
 -- The output after it: the node's digest; where it is refused, the output as it was.
 abbrev pub hash_out : Hashing → Position → Bool → List ℕ → List ℕ → List ℕ
 hash_out h position last input out =
-    cond (is_ok (hash_answer h position (length input) (length out))) (h.digest position last input) out
+    if is_ok (hash_answer h position (length input) (length out)) then h.digest position last input else out

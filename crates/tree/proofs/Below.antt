@@ -1,7 +1,8 @@
 -- Numbers below a bound: what was found first, and sums that differ at one number.
 use Rattle.std.proofs.Common.{◌≡◌, ℕ, zero, suc, ◌+◌, ◌<◌, ◌≤◌, Bool, true, false, cond, ◌≢◌, List, ◌++◌, Some, None, Option, refl, ◌∙◌, ap₂, arith}
 use native.Mathlib.Decide.{ℕ_discrete}
-use Rattle.tree.specs.Below.{first, or_else, total, joined_from}
+use Rattle.std.specs.Option.{option_or}
+use Rattle.tree.specs.Below.{first, total, joined_from}
 
 -- a number below one more is below, or it is the bound
 pub by_last : {A : Type 0} → (i n : ℕ) → i < suc n → (i < n → A) → (i ≡ n → A) → A
@@ -9,11 +10,11 @@ by_last i n h low high = elim (ℕ_discrete i n) [ yes e ↦ high e | no ne ↦ 
 
 -- where none was found, none passes
 pub first_none : (p : ℕ → Bool) (n : ℕ) → first p n ≡ None → (i : ℕ) → i < n → p i ≡ false
-unfolding first or_else
+unfolding first
 first_none p zero e i h = absurd (omega arith)
 first_none p (suc n) e i h = go (first_none p n) (first p n) refl (p n) refl e
   where
-    go : ((first p n ≡ None) → (i : ℕ) → i < n → p i ≡ false) → (o : Option ℕ) → first p n ≡ o → (b : Bool) → p n ≡ b → or_else o (cond b (Some n) None) ≡ None → p i ≡ false
+    go : ((first p n ≡ None) → (i : ℕ) → i < n → p i ≡ false) → (o : Option ℕ) → first p n ≡ o → (b : Bool) → p n ≡ b → option_or o (cond b (Some n) None) ≡ None → p i ≡ false
     go ih (Some x) e₁ b e₂ e₃ = cc
     go ih None e₁ true e₂ e₃ = cc
     go ih None e₁ false e₂ e₃ = by_last i n h (ih e₁ i) (λ q. rw q e₂)
@@ -25,18 +26,18 @@ pub record First (p : ℕ → Bool) (n j : ℕ) : Type 0 where
   pub least : (i : ℕ) → i < j → p i ≡ false
 
 pub first_some : (p : ℕ → Bool) (n j : ℕ) → first p n ≡ Some j → First p n j
-unfolding first or_else
-first_some p zero j e = absurd (let z : ◌≡◌ {A = ℕ} 0 1 = cc in omega arith)
+unfolding first
+first_some p zero j e = absurd (cc)
 first_some p (suc n) j e = go (first_some p n) (first p n) refl (p n) refl e
   where
-    go : ((j : ℕ) → first p n ≡ Some j → First p n j) → (o : Option ℕ) → first p n ≡ o → (b : Bool) → p n ≡ b → or_else o (cond b (Some n) None) ≡ Some j → First p (suc n) j
+    go : ((j : ℕ) → first p n ≡ Some j → First p n j) → (o : Option ℕ) → first p n ≡ o → (b : Bool) → p n ≡ b → option_or o (cond b (Some n) None) ≡ Some j → First p (suc n) j
     go ih (Some x) e₁ b e₂ e₃ =
         let r = ih j (e₁ ∙ e₃) in
         record { below = omega (arith, r.below); passes = r.passes; least = r.least }
     go ih None e₁ true e₂ e₃ =
         let q : n ≡ j = cc in
         record { below = omega arith; passes = rw (← q) e₂; least = λ i h. first_none p n e₁ i (omega arith) }
-    go ih None e₁ false e₂ e₃ = absurd (let z : ◌≡◌ {A = ℕ} 0 1 = cc in omega arith)
+    go ih None e₁ false e₂ e₃ = absurd (cc)
 
 pub total_same : (f g : ℕ → ℕ) (n : ℕ) → ((i : ℕ) → i < n → f i ≡ g i) → total f n ≡ total g n
 unfolding total

@@ -1,5 +1,6 @@
 -- That estimates suffice: a put marks at most one node in each layer, and no other call marks any.
 use Rattle.std.proofs.Common.{◌≡◌, ℕ, ◌+◌, ◌*◌, ◌≤◌, Bool, true, false, cond, List, [], ◌∷◌, ◌++◌, length, set, is_some, is_ok, Some, None, Option, refl, mul-le-mul_right, add-mul, arith}
+use Rattle.std.proofs.Math.Nat.{le_refl}
 use Rattle.nodehash.specs.declared.position.Position.{Position}
 use Rattle.tree.specs.declared.answer.Reply.TheVariants.{Done}
 use Rattle.tree.specs.Calls.{Call, Open, Put, Withdraw, Step, Root, Stale, told, answer_of, state_of, next_node, open_state, put_rows, put_answer, put_state, withdraw_state, step_table, step_state, estimate_rows, estimate_answer}
@@ -19,9 +20,6 @@ module _ (m : Making) (s : State) (es : List Event) (i : Inv m s es) where
       → marks (shape_in m) (cond b new s).table ≤ a + marks (shape_in m) s.table
   either_way true new a h = omega arith
   either_way false new a h = omega arith
-
-  as_many : marks (shape_in m) s.table ≤ marks (shape_in m) s.table
-  as_many = omega arith
 
   step-marks : (o : Option Position) → next_node (seal m s) ≡ o → marks (shape_in m) (step_table (seal m s) o) ≤ marks (shape_in m) s.table
   unfolding step_table marks
@@ -50,9 +48,9 @@ module _ (m : Making) (s : State) (es : List Event) (i : Inv m s es) where
 
   call_marks : (c : Call) → marks (shape_in m) (state_of (seal m s) c).table ≤ added c + marks (shape_in m) s.table
   unfolding state_of open_state withdraw_state step_state
-  call_marks (Open p out) = either_way _ _ _ as_many
+  call_marks (Open p out) = either_way _ _ _ (le_refl _)
   call_marks (Put p bytes) = put-marks p bytes
-  call_marks (Withdraw p) = either_way _ _ _ as_many
+  call_marks (Withdraw p) = either_way _ _ _ (le_refl _)
   call_marks (Step work) = either_way _ _ _ (step-marks _ refl)
   call_marks (Root out) = omega arith
   call_marks Stale = omega arith

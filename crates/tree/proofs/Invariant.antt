@@ -30,9 +30,6 @@ use Rattle.tree.proofs.Rows.{Passed, passed_from_ok, by_rows}
 use Rattle.tree.proofs.Shapes.{place-below, place_other, group_node}
 use Rattle.tree.proofs.Trees.{tree_is, tree-length, input_same, tree_other}
 
-none_some : {A B : Type 0} (x : A) → None ≡ Some x → B
-none_some x e = absurd (let z : ◌≡◌ {A = ℕ} 0 1 = cc in omega arith)
-
 open_is : (o : Option ℕ) (p : ℕ) → is_open o p ≡ true → o ≡ Some p
 unfolding is_open
 open_is (Some q) p e = ap Some (eqb-true q p e)
@@ -99,7 +96,7 @@ module _ (m : Making) where
   unfolding withdraw_state withdraw_answer answer_of put_in works
   inv_withdraw s es p i =
       inv_rows s es (Withdraw p) (withdraw_rows (seal s) p) tt _ _ i
-      (λ e. inv_quiet s es _ None i (record { no_put = refl; no_work = λ k j. refl }) (λ q r. none_some q r))
+      (λ e. inv_quiet s es _ None i (record { no_put = refl; no_work = λ k j. refl }) (λ q r. absurd (cc)))
 
   -- PUT
 
@@ -149,7 +146,7 @@ module _ (m : Making) where
     inv_written = record {
       pages_are = put_page;
       as_many = length-set s.pages p bytes ∙ i.as_many;
-      open_in = λ q r. none_some q r;
+      open_in = λ q r. absurd (cc);
       long = rw length-path i.long;
       unmarked = λ k j v u.
           elim (ℕ_discrete (path (fanout_of m.hash) p k) j) [
@@ -354,7 +351,7 @@ module _ (m : Making) where
   inv_fresh acc = record {
     pages_are = λ p. get_or-map (λ (x : Page). x.bytes) m.image.pages p absent;
     as_many = length-map m.image.pages (λ (x : Page). x.bytes);
-    open_in = λ p e. none_some p e;
+    open_in = λ p e. absurd (cc);
     long =
         let q = length-append (fresh (node_count (shape_in m))) (drop (65 * node_count (shape_in m)) m.table) in
         let r = length-fresh (node_count (shape_in m)) in

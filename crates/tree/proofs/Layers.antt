@@ -2,10 +2,11 @@
 use Rattle.std.proofs.Common.{◌≡◌, ℕ, suc, ◌+◌, ◌-◌, ◌*◌, ◌/◌, ◌≤◌, eqb, Some, None, Option, refl, ap, ◌∙◌, mul-le-mul_right, suc-mul, mul-le-mul_left, div-mul-le_self, arith, eqb-true}
 use native.Mathlib.Decide.{dec_lt}
 use borrow.Author.Tests.{eqb-false}
+use Rattle.std.specs.Option.{option_map_or}
 use Rattle.tree.specs.declared.shape.Shape.{Shape}
 use Rattle.tree.specs.Below.{first}
 use Rattle.tree.specs.Laws.{Ends}
-use Rattle.tree.specs.Shapes.{layer_size, above, root_layer, layer_count}
+use Rattle.tree.specs.Shapes.{layer_size, root_layer, layer_count}
 use Rattle.tree.proofs.Below.{first_some, first_none}
 use Rattle.tree.proofs.Shapes.{layer_some}
 
@@ -41,7 +42,7 @@ layers_end s wide some h = go (first (λ k. eqb (layer_size s (suc k)) 1) 12) re
     go : (o : Option ℕ) → first (λ k. eqb (layer_size s (suc k)) 1) 12 ≡ o → Ends s
     go (Some k) e =
         let a = first_some (λ k. eqb (layer_size s (suc k)) 1) 12 k e in
-        let q : root_layer s ≡ suc k = ap above e in
+        let q : root_layer s ≡ suc k = ap (λ o. option_map_or suc o 12) e in
         let b = a.below in
         record {
           above_pages = omega arith;

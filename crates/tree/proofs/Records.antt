@@ -1,8 +1,11 @@
 -- What a store, a mark and a making leave in each record of a node table.
-use Rattle.std.proofs.Common.{◌≡◌, ℕ, zero, suc, ◌+◌, ◌-◌, ◌*◌, ◌<◌, ◌≤◌, true, false, not, eqb, ◌≢◌, List, ◌∷◌, ◌++◌, length, get_or, take, drop, set, replicate, sym, refl, ap, ◌∙◌, append_assoc, arith, length-append, length-drop, length-set, take-append-drop, length-take-le, get_or-drop, get_or-set_other, get_or-take, get_or-set_same, drop-drop, take_at, drop-set-lt, drop_at}
+use Rattle.std.proofs.Common.{◌≡◌, ℕ, zero, suc, ◌+◌, ◌-◌, ◌*◌, ◌<◌, ◌≤◌, true, false, not, eqb, ◌≢◌, List, ◌∷◌, ◌++◌, length, get_or, take, drop, set, replicate, sym, refl, ap, ◌∙◌, append_assoc, arith, length-append, length-drop, length-set, length-take-le, get_or-drop, get_or-set_other, get_or-take, get_or-set_same, drop-drop, take_at, drop-set-lt, drop_at}
 use native.Mathlib.Decide.{ℕ_discrete, dec_lt}
 use lib.ListN.{length-replicate}
-use lib.Seq.{take-append-le, drop-append-le, drop-append-add, take-set-le, drop-set-add, get_or_at}
+use lib.Seq.{drop-append-add, take-set-le, drop-set-add, get_or_at}
+use borrow.Rule.Slice.PartMut.{put_mid}
+use Rattle.std.proofs.lemmas.List.{drop-take}
+use Rattle.std.proofs.lemmas.Slice.{drop-put_mid, take-put_mid_below}
 use Rattle.tree.specs.Records.{marked, held, stored, zeros, store, mark, fresh}
 
 pub length-stored : (d : List ℕ) → length d ≤ 64 → length (stored d) ≡ 64
@@ -39,48 +42,21 @@ held-store t i d hd h =
     let e : drop (65 * i + 1) (take (65 * i) t ++ (0 ∷ s)) ≡ s = sym (drop-drop 1 (65 * i) (take (65 * i) t ++ (0 ∷ s))) ∙ ap (drop 1) (drop_at (take (65 * i) t) (0 ∷ s) (65 * i) b) in
     rw e (take_at (stored d) (drop (65 * i + 65) t) 64 (length-stored d hd))
 
--- A part of the table, w bytes from x on, that lies before record i or behind it, is left by a store.
-front_part : (a r : List ℕ) (x w : ℕ) → x + w ≤ length a → take w (drop x (a ++ r)) ≡ take w (drop x a)
-front_part a r x w h =
-    let l : x ≤ length a = omega arith in
-    let l' : w ≤ length (drop x a) = simp length-drop (omega arith) in
-    ap (take w) (drop-append-le x a r l) ∙ take-append-le w (drop x a) r l'
-
-back_part : (a r : List ℕ) (x : ℕ) → length a ≤ x → drop x (a ++ r) ≡ drop (x - length a) r
-back_part a r x h =
-    let e : x ≡ length a + (x - length a) = omega arith in
-    ap (λ y. drop y (a ++ r)) e ∙ drop-append-add a r (x - length a)
-
-part_before : (t : List ℕ) (i : ℕ) (d : List ℕ) (x w : ℕ) → 65 * i + 65 ≤ length t → x + w ≤ 65 * i
-    → take w (drop x (store t i d)) ≡ take w (drop x t)
+-- a store overwrites record i, and no other part of the table, w bytes from x on
+store_is : (t : List ℕ) (i : ℕ) (d : List ℕ) → store t i d ≡ put_mid (65 * i) 65 t (0 ∷ stored d)
 unfolding store
-part_before t i d x w h l =
-    let b = cut-length t i h in
-    let l' : x + w ≤ length (take (65 * i) t) = omega arith in
-    let e = take-append-drop (65 * i) t in
-    front_part (take (65 * i) t) _ x w l' ∙ sym (front_part (take (65 * i) t) (drop (65 * i) t) x w l') ∙ ap (λ y. take w (drop x y)) e
-
-part_behind : (t : List ℕ) (i : ℕ) (d : List ℕ) (x w : ℕ) → length d ≤ 64 → 65 * i + 65 ≤ length t → 65 * i + 65 ≤ x
-    → take w (drop x (store t i d)) ≡ take w (drop x t)
-unfolding store
-part_behind t i d x w hd h l =
-    let b = cut-length t i h in
-    let c = length-stored d hd in
-    let a = take (65 * i) t ++ (0 ∷ stored d) in
-    let n : length (take (65 * i) t ++ (0 ∷ stored d)) ≡ 65 * i + 65 = length-append (take (65 * i) t) (0 ∷ stored d) ∙ omega arith in
-    let e : take (65 * i) t ++ ((0 ∷ stored d) ++ drop (65 * i + 65) t) ≡ (take (65 * i) t ++ (0 ∷ stored d)) ++ drop (65 * i + 65) t =
-    sym (append_assoc (take (65 * i) t) (0 ∷ stored d) (drop (65 * i + 65) t)) in
-    let q : 65 * i + 65 + (x - length (take (65 * i) t ++ (0 ∷ stored d))) ≡ x = omega arith in
-    ap (take w)
-    (ap (drop x) e ∙ back_part a (drop (65 * i + 65) t) x (omega arith)
-    ∙ drop-drop (x - length (take (65 * i) t ++ (0 ∷ stored d))) (65 * i + 65) t ∙ ap (λ y. drop y t) q)
+store_is t i d = ap (λ r. take (65 * i) t ++ ((0 ∷ stored d) ++ r)) (sym (drop-drop 65 (65 * i) t))
 
 pub part_other : (t : List ℕ) (i i' : ℕ) (d : List ℕ) (x w : ℕ) → length d ≤ 64 → 65 * i + 65 ≤ length t → i' ≢ i → 65 * i' ≤ x → x + w ≤ 65 * i' + 65
     → take w (drop x (store t i d)) ≡ take w (drop x t)
 part_other t i i' d x w hd h ne lo hi =
-    elim (dec_lt i i') [
-      | yes l ↦ part_behind t i d x w hd h (omega arith)
-      | no l ↦ part_before t i d x w h (omega arith)
+    ap (λ s. take w (drop x s)) (store_is t i d)
+    ∙ elim (dec_lt i i') [
+      | yes l ↦ ap (take w) (drop-put_mid (65 * i) 65 t (0 ∷ stored d) x (omega arith) (omega arith) (omega (arith, length-stored d hd)))
+      | no l ↦
+          sym (drop-take x w (put_mid (65 * i) 65 t (0 ∷ stored d)))
+          ∙ ap (drop x) (take-put_mid_below (65 * i) 65 t (0 ∷ stored d) (x + w) (omega arith) (omega arith))
+          ∙ drop-take x w t
     ]
 
 byte_part : (t : List ℕ) (x : ℕ) → get_or t x 0 ≡ get_or (take 1 (drop x t)) 0 0

@@ -8,7 +8,7 @@ use Rattle.image.specs.Pages.{count, page_at}
 use Rattle.nodehash.specs.Hashing.{digest_length, node}
 use Rattle.nodehash.specs.declared.position.Position.{Position}
 use Rattle.tree.specs.declared.answer.Reply.TheVariants.{Stepped, RootRead}
-use Rattle.tree.specs.Calls.{Call, Open, Put, Withdraw, Step, Root, Stale, told, answer_of, buffer_of, state_of, next_node, is_unreadable, work_rows, page_rows, work_on, step_table, step_answer, step_state, root_rows, root_answer, root_out}
+use Rattle.tree.specs.Calls.{Call, Step, Root, told, answer_of, buffer_of, state_of, next_node, is_unreadable, work_rows, page_rows, work_on, step_table, step_answer, step_state, root_rows, root_answer, root_out}
 use Rattle.tree.specs.Laws.{IsStep, StepsAlone, reported, root_after, blocks_after, marks_left, Clear, StepsAccepted, RootWaits, RootComes, BlocksSum}
 use Rattle.tree.specs.Marks.{marks, short}
 use Rattle.tree.specs.Runs.{Making, Accepted, shape_in, base_of, state_after, view_after, answer_to, Event, events, put_in, page_after, blocks_in}
@@ -24,11 +24,7 @@ use Rattle.tree.proofs.Rows.{ok_from_passed, after_passed}
 -- what holds of each step holds of a call that is one
 by_step : (P : Call → Type 0) → ((work : List ℕ) → length work ≡ 4096 → P (Step work)) → (c : Call) → IsStep c → P c
 by_step P h (Step work) e = h work e
-by_step P h (Open p out) e = absurd e
-by_step P h (Put p bytes) e = absurd e
-by_step P h (Withdraw p) e = absurd e
-by_step P h (Root out) e = absurd e
-by_step P h Stale e = absurd e
+by_step P h _ e = absurd e
 
 -- what no step breaks holds after steps alone
 by_steps : (P : List Call → Type 0) → P [] → ((work : List ℕ) (more : List Call) → length work ≡ 4096 → P more → P (Step work ∷ more))

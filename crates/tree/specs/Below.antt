@@ -1,15 +1,11 @@
 -- Numbers below a bound: the least that passes a test, a sum, and bytes joined.
-use Rattle.std.specs.Prelude.{ℕ, zero, suc, ◌+◌, Bool, cond, List, [], ◌++◌, Some, None, Option}
-
--- a value, if there is one, or else another
-unfoldable pub or_else : {A : Type 0} → Option A → Option A → Option A
-or_else (Some a) b = Some a
-or_else None b = b
+use Rattle.std.specs.Option.{option_or}
+use Rattle.std.specs.Prelude.{ℕ, zero, suc, ◌+◌, Bool, if◌then◌else◌, List, [], ◌++◌, Some, None, Option}
 
 -- the least number below n that passes p
 unfoldable pub first : (ℕ → Bool) → ℕ → Option ℕ
 first p zero = None
-first p (suc n) = or_else (first p n) (cond (p n) (Some n) None)
+first p (suc n) = option_or (first p n) (if p n then Some n else None)
 
 -- f 0 + f 1 + .. + f (n - 1)
 unfoldable pub total : (ℕ → ℕ) → ℕ → ℕ

@@ -1,5 +1,5 @@
 -- The calls on a seal: what each answers, what it leaves in its buffer, and the state after it, for every argument.
-use Rattle.std.specs.Prelude.{ℕ, suc, ◌*◌, Bool, true, false, cond, not, ◌&&◌, List, [], ◌∷◌, ◌++◌, length, replicate, is_some, is_ok, Some, None, Ok, Err, Option, Result, ◌==◌, nat_le, nat_lt, slice_set}
+use Rattle.std.specs.Prelude.{ℕ, suc, ◌*◌, Bool, true, false, if◌then◌else◌, not, ◌&&◌, List, [], ◌∷◌, ◌++◌, length, replicate, is_some, is_ok, Some, None, Ok, Err, Option, Result, ◌==◌, nat_le, nat_lt, slice_set}
 use Rattle.std.specs.Option.{option_map}
 use Rattle.fault.specs.Faults.{Row, on, unless}
 use Rattle.fault.specs.declared.fault.Fault.{Fault}
@@ -30,11 +30,10 @@ open_answer v p n = unless (open_rows v p n) p
 
 -- the buffer after it
 unfoldable pub open_out : View → ℕ → List ℕ → List ℕ
-open_out v p out = cond (is_ok (open_answer v p (length out))) (page_bytes v.state p) out
+open_out v p out = if is_ok (open_answer v p (length out)) then page_bytes v.state p else out
 
 unfoldable pub open_state : View → ℕ → ℕ → State
-open_state v p n =
-    cond (is_ok (open_answer v p n)) (record { pages = v.state.pages; opened = Some p; table = v.state.table }) v.state
+open_state v p n = if is_ok (open_answer v p n) then record v.state { opened = Some p } else v.state
 
 -- Put writes the bytes to the open page, marks the page's path and closes the page.
 -- 46; 45 the table is short; 49 the ticket's page p is not the open one; 36 there are not as many bytes as the page has.
@@ -51,13 +50,13 @@ put_answer v p n = unless (put_rows v p n) tt
 
 unfoldable pub put_state : View → ℕ → List ℕ → State
 put_state v p bytes =
-    cond (is_ok (put_answer v p (length bytes)))
-    (record {
+    if is_ok (put_answer v p (length bytes)) then
+    record {
       pages = slice_set v.state.pages p bytes;
       opened = None;
       table = mark_path (shape v) p (layer_count (shape v)) v.state.table;
-    })
-    v.state
+    }
+    else v.state
 
 -- Withdraw closes the page and does nothing else: 46; 49.
 abbrev pub withdraw_rows : View → ℕ → List Row
@@ -67,8 +66,7 @@ unfoldable pub withdraw_answer : View → ℕ → Result (Unit {0}) Fault
 withdraw_answer v p = unless (withdraw_rows v p) tt
 
 unfoldable pub withdraw_state : View → ℕ → State
-withdraw_state v p =
-    cond (is_ok (withdraw_answer v p)) (record { pages = v.state.pages; opened = None; table = v.state.table }) v.state
+withdraw_state v p = if is_ok (withdraw_answer v p) then record v.state { opened = None } else v.state
 
 -- Step works the next node: it stores its digest and removes its mark.
 -- 46; 45; 47 the work buffer is not 4,096 bytes long; 37 the node's page cannot be read.
@@ -115,13 +113,10 @@ step_answer v n = unless (work_rows v n ++ page_rows v) (work_on v (next_node v)
 
 -- the work buffer after it: all zero, once its length was accepted
 unfoldable pub step_work : View → List ℕ → List ℕ
-step_work v work = cond (is_ok (unless (work_rows v (length work)) (length work))) (replicate 4096 0) work
+step_work v work = if is_ok (unless (work_rows v (length work)) (length work)) then replicate 4096 0 else work
 
 unfoldable pub step_state : View → ℕ → State
-step_state v n =
-    cond (is_ok (step_answer v n))
-    (record { pages = v.state.pages; opened = v.state.opened; table = step_table v (next_node v) })
-    v.state
+step_state v n = if is_ok (step_answer v n) then record v.state { table = step_table v (next_node v) } else v.state
 
 -- Root copies the root's digest out.
 -- 46; 45; 52 the output is not as long as the digest; 50 a page is open; 51 a node is marked.
@@ -139,7 +134,7 @@ root_answer v n = unless (root_rows v n) tt
 
 -- the output after it
 unfoldable pub root_out : View → List ℕ → List ℕ
-root_out v out = cond (is_ok (root_answer v (length out))) (digest_at v (root_layer (shape v)) 0) out
+root_out v out = if is_ok (root_answer v (length out)) then digest_at v (root_layer (shape v)) 0 else out
 
 -- Stale count answers how many nodes are marked: 46; 45.
 abbrev pub stale_rows : View → List Row

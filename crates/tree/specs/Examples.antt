@@ -10,7 +10,7 @@ use Rattle.tree.specs.Runs.{Making}
 -- A node hash that adds: a digest is one number, the sum of the input, ten times the depth, and the offset.
 abbrev pub adding : Hashing
 adding = record {
-  label = record { variant = example.variant; digest = 1; key = 0; fanout = 2; depth = 3; page = 2; salt = example.salt; layout = example.layout };
+  label = record example { digest = 1; key = 0; fanout = 2; depth = 3; page = 2 };
   fit = true;
   digest = λ node last input. (sum input + (10 * node.depth + node.offset)) ∷ [];
   blocks = λ depth n. 1;

@@ -1,5 +1,5 @@
 -- What holds of a run: its law, that estimates suffice, and that the layers of a tree end at its root.
-use Rattle.std.specs.Prelude.{◌≡◌, ℕ, ◌+◌, ◌<◌, ◌≤◌, Bool, true, false, cond, List, [], ◌∷◌, ◌++◌, length, is_some, is_ok, Some, None, Ok, Err, Option, ◌≢◌}
+use Rattle.std.specs.Prelude.{◌≡◌, ℕ, ◌+◌, ◌<◌, ◌≤◌, Bool, if◌then◌else◌, List, [], ◌∷◌, ◌++◌, length, is_some, IsOk, IsTrue, IsFalse, Some, None, Ok, Err, Option, ◌≢◌}
 use Rattle.fault.specs.Faults.{fault}
 use Rattle.fault.specs.declared.refusal.Refusal.TheVariants.{NodeMarked}
 use Rattle.image.specs.Pages.{count, page_at}
@@ -60,7 +60,7 @@ module _ (m : Making) (calls : List Call) where
 
   -- Every unmarked node holds the digest that the tree of the image as it then is gives it.
   abbrev pub UnmarkedTrue : Type 0
-  UnmarkedTrue = (k j : ℕ) → Node (shape_in m) k j → is_marked k j ≡ false → holds k j ≡ stored (digest_after m (events m calls) k j)
+  UnmarkedTrue = (k j : ℕ) → Node (shape_in m) k j → IsFalse (is_marked k j) → holds k j ≡ stored (digest_after m (events m calls) k j)
 
   -- A node is marked exactly when it was never worked or an accepted put on a page beneath it came since.
   abbrev pub MarkedStale : Type 0
@@ -68,7 +68,7 @@ module _ (m : Making) (calls : List Call) where
 
   -- A marked node holds the digest that the tree gave it when it was last worked, or zeros if it never was.
   abbrev pub MarkedOld : Type 0
-  MarkedOld = (k j : ℕ) → Node (shape_in m) k j → is_marked k j ≡ true → holds k j ≡ held_from m k j (last_worked k j (events m calls))
+  MarkedOld = (k j : ℕ) → Node (shape_in m) k j → IsTrue (is_marked k j) → holds k j ≡ held_from m k j (last_worked k j (events m calls))
 
   -- A root that a further call gives out is the root of the tree of the image as it then is.
   abbrev pub RootTrue : Type 0
@@ -80,12 +80,12 @@ module _ (m : Making) (calls : List Call) where
 
   -- All pages are readable and none is open. Let steps alone follow.
   pub record Clear : Type 0 where
-    pub readable : (p : ℕ) → p < count m.image → (page_at m.image p).state.readable ≡ true
+    pub readable : (p : ℕ) → p < count m.image → IsTrue (page_at m.image p).state.readable
     pub closed : (state_after m calls).opened ≡ None
 
   -- None of them is refused.
   abbrev pub StepsAccepted : Type 0
-  StepsAccepted = (more : List Call) → StepsAlone more → (c : Call) → IsStep c → is_ok (answer_to m (more ++ calls) c) ≡ true
+  StepsAccepted = (more : List Call) → StepsAlone more → (c : Call) → IsStep c → IsOk (answer_to m (more ++ calls) c)
 
   -- After fewer steps than nodes are marked, a root reading gets 51.
   abbrev pub RootWaits : Type 0
@@ -106,7 +106,7 @@ module _ (m : Making) (calls : List Call) where
   abbrev pub BlocksSum : Type 0
   BlocksSum =
       (more : List Call) → StepsAlone more → length more ≡ marks_left
-      → reported m calls more ≡ over_nodes (shape_in m) (λ k j. cond (is_marked k j) (blocks_after m (events m calls) k j) 0)
+      → reported m calls more ≡ over_nodes (shape_in m) (λ k j. if is_marked k j then blocks_after m (events m calls) k j else 0)
 
   -- The law of this run.
   pub record Holds : Type 0 where
@@ -123,7 +123,7 @@ module _ (m : Making) (calls : List Call) where
 -- how many of more calls are accepted puts
 unfoldable pub put_count : Making → List Call → List Call → ℕ
 put_count m calls [] = 0
-put_count m calls (c ∷ more) = put_count m calls more + cond (is_some (put_in (did c (answer_to m (more ++ calls) c)))) 1 0
+put_count m calls (c ∷ more) = put_count m calls more + (if is_some (put_in (did c (answer_to m (more ++ calls) c))) then 1 else 0)
 
 -- An estimate after these calls suffices for more calls: where these have no more accepted puts than the estimate was given pages, at most as many nodes are marked as it answered.
 abbrev pub Suffices : Making → List Call → List Call → Type 0

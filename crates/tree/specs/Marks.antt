@@ -1,5 +1,5 @@
 -- The nodes of a table: which are marked, which is worked next, and the path that a put marks.
-use Rattle.std.specs.Prelude.{ℕ, zero, suc, ◌*◌, Bool, cond, List, length, is_some, Option, nat_lt}
+use Rattle.std.specs.Prelude.{ℕ, zero, suc, ◌*◌, Bool, if◌then◌else◌, List, length, is_some, Option, nat_lt}
 use Rattle.std.specs.Option.{option_and_then, option_map}
 use Rattle.nodehash.specs.Hashing.{node}
 use Rattle.nodehash.specs.declared.position.Position.{Position}
@@ -19,7 +19,7 @@ module _ (s : Shape) where
 
   -- how many nodes are marked
   unfoldable pub marks : List ℕ → ℕ
-  marks t = over_nodes s (λ k j. cond (marked_at t k j) 1 0)
+  marks t = over_nodes s (λ k j. if marked_at t k j then 1 else 0)
 
   -- the leftmost marked node of layer k
   unfoldable pub leftmost : List ℕ → ℕ → Option ℕ

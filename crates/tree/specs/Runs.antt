@@ -1,5 +1,5 @@
 -- Runs: the making of a seal and then calls, in any order and number; and what happened in a run.
-use Rattle.std.specs.Prelude.{◌≡◌, ℕ, ◌*◌, Bool, false, cond, not, ◌&&◌, ◌||◌, List, [], ◌∷◌, ◌++◌, map, drop, is_some, is_ok, Some, None, Ok, Option, Result, ◌==◌, nat_lt}
+use Rattle.std.specs.Prelude.{◌≡◌, ℕ, ◌*◌, Bool, false, if◌then◌else◌, not, ◌&&◌, ◌||◌, List, [], ◌∷◌, ◌++◌, map, drop, is_some, is_ok, Some, None, Ok, Option, Result, ◌==◌, nat_lt}
 use Rattle.fault.specs.Faults.{Row, on, unless}
 use Rattle.fault.specs.declared.fault.Fault.{Fault}
 use Rattle.fault.specs.declared.refusal.Refusal.TheVariants.{HashUnfit, PageLength, NoPages, DepthLimit, TableLength}
@@ -53,7 +53,7 @@ base_of m = record {
 -- The table that the making leaves: each node marked and zero, and what stands past the root as it was; where the check refuses, all as it was.
 unfoldable pub made_table : Making → List ℕ
 made_table m =
-    cond (is_ok (check_answer m)) (fresh (node_count (shape_in m)) ++ drop (65 * node_count (shape_in m)) m.table) m.table
+    if is_ok (check_answer m) then fresh (node_count (shape_in m)) ++ drop (65 * node_count (shape_in m)) m.table else m.table
 
 -- The state that the making leaves.
 unfoldable pub made : Making → State
@@ -88,12 +88,12 @@ events m (c ∷ calls) = did c (answer_to m calls c) ∷ events m calls
 
 -- the page and the bytes of an accepted put
 unfoldable pub put_in : Event → Option (ℕ × List ℕ)
-put_in (did (Put p bytes) a) = cond (is_ok a) (Some (p, bytes)) None
+put_in (did (Put p bytes) a) = if is_ok a then Some (p, bytes) else None
 put_in (did _ a) = None
 
 -- the bytes of page p after a put, if there was one, from those before
 unfoldable pub latest : ℕ → Option (ℕ × List ℕ) → List ℕ → List ℕ
-latest p (Some put) before = cond (put.0 == p) put.1 before
+latest p (Some put) before = if put.0 == p then put.1 else before
 latest p None before = before
 
 -- the image as it is after these events: each page has its bytes of the making, or those of its last accepted put
@@ -117,12 +117,12 @@ works k j (did c a) = answers_node k j a
 -- what had happened when node k:j was last worked, if it ever was
 unfoldable pub last_worked : ℕ → ℕ → List Event → Option (List Event)
 last_worked k j [] = None
-last_worked k j (e ∷ es) = cond (works k j e) (Some es) (last_worked k j es)
+last_worked k j (e ∷ es) = if works k j e then Some es else last_worked k j es
 
 -- what has happened since
 unfoldable pub since_worked : ℕ → ℕ → List Event → List Event
 since_worked k j [] = []
-since_worked k j (e ∷ es) = cond (works k j e) [] (e ∷ since_worked k j es)
+since_worked k j (e ∷ es) = if works k j e then [] else e ∷ since_worked k j es
 
 -- an accepted put on a page beneath node k:j is among these events
 unfoldable pub any_put : ℕ → ℕ → ℕ → List Event → Bool

@@ -1,5 +1,6 @@
 -- The shape of a tree: its layers, its nodes, and the order of these.
-use Rattle.std.specs.Prelude.{ℕ, zero, suc, ◌+◌, ◌-◌, ◌*◌, ◌/◌, ◌<◌, min, Bool, Some, None, Option, ◌==◌, nat_eq}
+use Rattle.std.specs.Prelude.{ℕ, zero, suc, ◌+◌, ◌-◌, ◌*◌, ◌/◌, ◌<◌, min, Bool, ◌==◌}
+use Rattle.std.specs.Option.{option_map_or}
 use Rattle.tree.specs.declared.shape.Shape.{Shape}
 use Rattle.tree.specs.Below.{first, total}
 
@@ -8,14 +9,9 @@ unfoldable pub layer_size : Shape → ℕ → ℕ
 layer_size s zero = s.pages
 layer_size s (suc k) = (layer_size s k + (s.fanout - 1)) / s.fanout
 
--- the layer above the one that was found, and 12 where none was
-abbrev pub above : Option ℕ → ℕ
-above (Some k) = suc k
-above None = 12
-
 -- the layer of the root: the first above layer 0 that has one node; over at most 4,096 pages it is one of 1 to 12
 unfoldable pub root_layer : Shape → ℕ
-root_layer s = above (first (λ k. nat_eq (layer_size s (suc k)) 1) 12)
+root_layer s = option_map_or suc (first (λ k. layer_size s (suc k) == 1) 12) 12
 
 unfoldable pub layer_count : Shape → ℕ
 layer_count s = suc (root_layer s)

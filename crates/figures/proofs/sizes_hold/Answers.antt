@@ -1,5 +1,5 @@
 use Rattle.std.proofs.Common.{drop, refl, ◌∙◌}
-use Rattle.tree.specs.Below.{first, or_else, total}
+use Rattle.tree.specs.Below.{first, total}
 use Rattle.tree.specs.Runs.{check_answer, check_rows}
 use Rattle.tree.specs.Shapes.{layer_count, layer_size, node_count, root_layer}
 use Rattle.tree.proofs.Rows.{after_passed, ok_from_passed}
@@ -7,7 +7,7 @@ use Rattle.figures.proofs.Depths.{one_group, three_rows, too_deep}
 use Rattle.figures.proofs.sizes_hold.Goals as goal
 
 pub returns : goal.returns
-unfolding layer_size layer_count root_layer first or_else node_count total check_answer
+unfolding layer_size layer_count root_layer first node_count total check_answer
 returns c = record {
   five_pages = refl;
   depth_four = λ m five e.
