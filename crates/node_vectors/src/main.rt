@@ -10,15 +10,10 @@
 mod node;
 
 fn main(rt: HostRuntime) -> anyhow::Result<()> {
-    run(&rt)
-}
-
-fn run(rt: &HostRuntime) -> anyhow::Result<()> {
     for line in rt.lines(rt.alloc()) {
         let line = line?;
-        let text = line.as_str();
-        if !text.is_empty() && !text.starts_with("#") {
-            node::answer(rt, text)?;
+        if !line.is_empty() && !line.starts_with('#') {
+            node::answer(&rt, &line)?;
         }
     }
     Ok(())
