@@ -1,5 +1,5 @@
 -- The digest of a node.
-use Rattle.std.specs.Prelude.{ℕ, Bool, false, if◌then◌else◌, ◌&&◌, List, [], length, replicate, Some, None, Option, ◌==◌}
+use Rattle.std.specs.Prelude.{ℕ, Bool, false, if◌then◌else◌, ◌&&◌, List, [], length, replicate, Some, None, unwrap_or, Option, ◌==◌}
 use Rattle.blake2.specs.Width.{Width, width_of}
 use Rattle.label.specs.Labels.{Parts}
 use Rattle.nodehash.specs.declared.position.Position.{Position}
@@ -25,8 +25,7 @@ fits w p (Some key) = w.size == (width_of p.variant).size && length key == p.key
 
 -- the bytes of a key
 abbrev pub key_bytes : Option (List ℕ) → List ℕ
-key_bytes None = []
-key_bytes (Some key) = key
+key_bytes key = unwrap_or key []
 
 -- The digest that a node hash gives: zeros, without a compression, where it does not fit.
 abbrev pub digest_of : Width → Parts → Option (List ℕ) → Position → Bool → List ℕ → List ℕ
