@@ -1,4 +1,6 @@
-pub mod Extents
+pub mod Cuts
+pub mod Dumps
 pub mod Frames
-pub mod Spans
+pub mod Made
+pub mod Places
 pub mod Writes

@@ -1,14 +1,16 @@
 -- A page is written into the buffer.
-use Rattle.std.proofs.Common.{◌≡◌, ℕ, ◌+◌, ◌-◌, ◌*◌, ◌<◌, min, Bool, true, false, cond, List, length, get_or, take, drop, is_ok, sym, refl, ap, ◌∙◌, ⊎_elim, arith, rules}
+use Rattle.std.proofs.Common.{◌≡◌, ℕ, ◌+◌, ◌-◌, ◌*◌, ◌<◌, min, List, length, get_or, take, drop, is_ok, Ok, sym, refl, ap, ◌∙◌, ⊎_elim, arith, rules}
 use borrow.Rule.Slice.PartMut.{put_mid}
-use Rattle.std.proofs.lemmas.List.{length-drop, length-set, get_or-set_same, get_or-set_other, ext_get_or, drop-take, places}
+use Rattle.std.proofs.lemmas.List.{length-drop, length-set, get_or-set_same, get_or-set_other, ext_get_or, drop-take, places, take_min}
 use Rattle.std.proofs.lemmas.Slice.{take-put_mid_below, drop-put_mid, between-put_mid}
 use Rattle.std.proofs.lemmas.Bool.{cases_order}
-use Rattle.image.specs.Pages.{Page, Pages, State, absent, count, no_pages, page_at, with_page}
-use Rattle.bench.specs.Benches.{bench_answer, bench_made, bench_state}
-use Rattle.bench.specs.Buffers.{cut, cut_pages, image_of, pages_of}
+use Rattle.image.specs.Pages.{Page, Pages, absent, page_at, with_page}
+use Rattle.image.specs.declared.state.PageState.{PageState}
+use Rattle.bench.specs.Buffers.{cut, cut_pages}
 use Rattle.bench.specs.Sound.{cut-count, cut_at, page_below}
-use Rattle.bench.proofs.Spans.{Span, take_min}
+use Rattle.image.specs.Answers.{write_answer, written}
+use Rattle.image.proofs.Outcomes.{write_done}
+use Rattle.bench.proofs.Places.{Place}
 
 module _ (size : ℕ) (buffer bytes : List ℕ) (page len : ℕ) (starts : page * size < length buffer) (long : len ≡ min size (length buffer - page * size)) (e : length bytes ≡ len) where
   abbrev put : List ℕ
@@ -32,7 +34,7 @@ module _ (size : ℕ) (buffer bytes : List ℕ) (page len : ℕ) (starts : page 
   cut-above : (k : ℕ) → page < k → cut size put k ≡ cut size buffer k
   cut-above k more = ap (take size) (drop-put_mid (page * size) len buffer bytes (k * size) (omega (arith, page_below size k page more)) (omega (arith, starts)) e)
 
-  module _ (n : ℕ) (state_at : ℕ → State) (there : page < n) where
+  module _ (n : ℕ) (state_at : ℕ → PageState) (there : page < n) where
     abbrev old : Pages
     old = cut_pages size n state_at buffer
 
@@ -61,21 +63,22 @@ module _ (size : ℕ) (buffer bytes : List ℕ) (page len : ℕ) (starts : page 
         (cut-count size n state_at put ∙ sym (cut-count size n state_at buffer) ∙ sym (length-set old.pages page (record { bytes = bytes; state = (page_at old page).state })))
         page_each)
 
-  pub image_written : (ok : Bool) (state_at : ℕ → State) → page < count (image_of ok size state_at buffer)
-      → cond ok (cut_pages size (pages_of size (length buffer)) state_at put) no_pages ≡ with_page (image_of ok size state_at buffer) page bytes
-  image_written true state_at h =
-      let n = pages_of size (length buffer) in cut-written n state_at (omega (arith, cut-count size n state_at buffer))
-  image_written false state_at h = absurd (omega arith)
-
 -- as the code has it: `last` is what the copy left in the part
-pub bench_written : (size q : ℕ) (buffer : List ℕ) (page : ℕ) (bytes last : List ℕ) → page < count (bench_made size q buffer)
-    → Span size buffer page (length bytes) (page_at (bench_made size q buffer) page).bytes → last ≡ bytes
-    → bench_made size q (put_mid (page * size) (page * size + length bytes - page * size) buffer last) ≡ with_page (bench_made size q buffer) page bytes
-bench_written size q buffer page bytes last h s same =
-    let n = length bytes in
-    let part : page * size + n - page * size ≡ n = omega arith in
-    let starts : page * size < length buffer = omega (arith, s.within, s.some) in
-    ap (λ k. bench_made size q (put_mid (page * size) k buffer last)) part
-    ∙ ap (λ b. bench_made size q (put_mid (page * size) n buffer b)) same
-    ∙ ap (λ k. cond (is_ok (bench_answer size q k)) (cut_pages size (pages_of size k) (bench_state q) (put_mid (page * size) n buffer bytes)) no_pages) (put-length size buffer bytes page n starts s.long refl)
-    ∙ image_written size buffer bytes page n starts s.long refl (is_ok (bench_answer size q (length buffer))) (bench_state q) h
+module _ (size n : ℕ) (buffer : List ℕ) (page : ℕ) (bytes last : List ℕ) (p : Place size n buffer page (length bytes)) (same : last ≡ bytes) where
+  abbrev after : List ℕ
+  after = put_mid (page * size) (page * size + length bytes - page * size) buffer last
+
+  after-is : after ≡ put_mid (page * size) (length bytes) buffer bytes
+  after-is =
+      let part : page * size + length bytes - page * size ≡ length bytes = omega arith in
+      ap (λ k. put_mid (page * size) k buffer last) part ∙ ap (put_mid (page * size) (length bytes) buffer) same
+
+  pub after-length : length after ≡ length buffer
+  after-length = ap length after-is ∙ put-length size buffer bytes page (length bytes) p.starts p.long refl
+
+  pub after_written : (state_at : ℕ → PageState) → Ok tt ≡ write_answer (cut_pages size n state_at buffer) page (length bytes)
+      → cut_pages size n state_at after ≡ written (cut_pages size n state_at buffer) page bytes
+  after_written state_at h =
+      ap (cut_pages size n state_at) after-is
+      ∙ cut-written size buffer bytes page (length bytes) p.starts p.long refl n state_at p.there
+      ∙ sym (write_done (cut_pages size n state_at buffer) page bytes (sym (ap is_ok h)))

@@ -1,53 +1,22 @@
--- The image of a buffer is well-formed.
-use Rattle.std.specs.Prelude.{◌≡◌, ℕ, ◌+◌, ◌-◌, ◌*◌, ◌/◌, ◌%◌, ◌<◌, ◌≤◌, min, Bool, true, false, not, List, [], ◌∷◌, length, drop, is_ok, ◌==◌, nat_eq, nat_lt}
-use Rattle.std.proofs.Common.{ap, ◌∙◌, ⊎_elim, add-mul, one-mul, zero-mul, arith}
-use Rattle.std.proofs.lemmas.Nat.{mul-le, div-add-mod', mod_below}
-use Rattle.std.proofs.lemmas.List.FromFn.{length-map-range_with_len, get_or-map-range_with_len}
+-- The image of a buffer is well-formed. The code cites the proof in `ghost sound`, so it stands with the definitions.
+use Rattle.std.specs.Prelude.{◌≡◌, ℕ, ◌+◌, ◌-◌, ◌*◌, ◌<◌, ◌≤◌, min, false, not, ◌&&◌, List, length, drop, ◌==◌, nat_lt}
+use Rattle.std.proofs.Common.{ap, ◌∙◌, add-mul, one-mul, arith}
+use Rattle.std.proofs.lemmas.Bool.{or_parts, and_parts, not-true, ltb-false, eqb-false}
+use Rattle.std.proofs.lemmas.Grind.{div_ceil_times}
 use Rattle.std.proofs.lemmas.List.{length-take, length-drop}
-use Rattle.std.proofs.lemmas.Bool.{cases_eq, eq-eqb, ne_eqb, or_parts, and_parts, not-true, ltb-false, eqb-false}
-use Rattle.fault.specs.Faults.{on}
-use Rattle.fault.specs.declared.refusal.Refusal.TheVariants.{ImageShape, LockedPages}
-use Rattle.image.specs.Pages.{Page, State, WellFormed, absent, count, page_at, length_at}
-use Rattle.image.specs.Sound.{made_sound, row_passed}
-use Rattle.bench.specs.Benches.{bench_made, bench_answer, bench_state}
-use Rattle.bench.specs.Buffers.{cut, cut_pages, image_of, pages_of, shape_bad}
+use Rattle.std.proofs.lemmas.List.FromFn.{length-map-range_with_len, get_or-map-range_with_len}
+use Rattle.std.proofs.lemmas.Nat.{mul-le}
+use Rattle.image.specs.Pages.{Page, WellFormed, absent, count, page_at, length_at}
+use Rattle.image.specs.declared.state.PageState.{PageState}
+use Rattle.image.proofs.Sound.{made_sound}
+use Rattle.bench.specs.Buffers.{cut, cut_pages, pages_of, shape_bad}
 use Rattle.bench.specs.Dumps.{dump_held, dump_state}
-
--- what a shape that is not bad says
-pub record Fine (size len : ℕ) : Type 0 where
-  pub low : 64 ≤ size
-  pub high : size ≤ 4096
-  pub some : 1 ≤ pages_of size len
-  pub few : pages_of size len ≤ 4096
-
-pub shape_fine : (size len : ℕ) → shape_bad size len ≡ false → Fine size len
-shape_fine size len h =
-    let n = pages_of size len in
-    let a = or_parts (nat_lt size 64) _ h in
-    let b = or_parts (nat_lt 4096 size) _ a.1 in
-    let c = or_parts (n == 0) _ b.1 in
-    record {
-      low = ltb-false size 64 a.0;
-      high = ltb-false 4096 size b.0;
-      some = omega (arith, eqb-false n 0 c.0);
-      few = ltb-false 4096 n c.1;
-    }
 
 -- page k ends before page n begins
 pub page_below : (size n k : ℕ) → k < n → k * size + size ≤ n * size
 page_below size n k h = omega (arith, mul-le (k + 1) size n size (omega arith) (omega arith), add-mul k 1 size, one-mul size)
 
--- the pages reach the end of the buffer, and less than a page further
-pub pages_fit : (size len : ℕ) → 0 < size → (pages_of size len * size < len + size) × (len ≤ pages_of size len * size)
-pages_fit size len h =
-    let d = div-add-mod' len size in
-    let r = mod_below len size h in
-    ⊎_elim
-    (λ z. let e : nat_eq (len % size) 0 ≡ true = eq-eqb (len % size) 0 z in let s = add-mul (len / size) 0 size in rw e (omega (arith, s, zero-mul size), omega (arith, s, zero-mul size)))
-    (λ z. let e : nat_eq (len % size) 0 ≡ false = ne_eqb (len % size) 0 z in let s = add-mul (len / size) 1 size in rw e (omega (arith, s, one-mul size, z), omega (arith, s, one-mul size, z)))
-    (cases_eq (len % size) 0)
-
-module _ (size n : ℕ) (state_at : ℕ → State) (buffer : List ℕ) where
+module _ (size n : ℕ) (state_at : ℕ → PageState) (buffer : List ℕ) where
   pub cut-count : count (cut_pages size n state_at buffer) ≡ n
   cut-count = length-map-range_with_len (λ k. record { bytes = cut size buffer k; state = state_at k }) 0 n
 
@@ -57,31 +26,48 @@ module _ (size n : ℕ) (state_at : ℕ → State) (buffer : List ℕ) where
   pub cut-length : (k : ℕ) → k < n → length_at (cut_pages size n state_at buffer) k ≡ min size (length buffer - k * size)
   cut-length k h = ap (λ (p : Page). length p.bytes) (cut_at k h) ∙ length-take size (drop (k * size) buffer) ∙ ap (min size) (length-drop (k * size) buffer)
 
-cut_sound : (size : ℕ) (state_at : ℕ → State) (buffer : List ℕ) → Fine size (length buffer) → WellFormed (cut_pages size (pages_of size (length buffer)) state_at buffer)
-cut_sound size state_at buffer fine =
+-- what a shape that is not bad says
+pub record Fine (size len : ℕ) : Type 0 where
+  pub low : 64 ≤ size
+  pub high : size ≤ 4096
+  pub some : 1 ≤ pages_of size len
+  pub few : pages_of size len ≤ 4096
+  pub reach : len ≤ pages_of size len * size  -- the pages reach the end of the buffer,
+  pub near : pages_of size len * size < len + size  -- and less than a page further
+
+pub shape_fine : (size len : ℕ) → shape_bad size len ≡ false → Fine size len
+shape_fine size len h =
+    let n = pages_of size len in
+    let a = or_parts (nat_lt size 64) _ h in
+    let b = or_parts (nat_lt 4096 size) _ a.1 in
+    let c = or_parts (n == 0) _ b.1 in
+    let low : 64 ≤ size = ltb-false size 64 a.0 in
+    let fit = div_ceil_times len size (omega arith) in
+    record {
+      low = low;
+      high = ltb-false 4096 size b.0;
+      some = omega (arith, eqb-false n 0 c.0);
+      few = ltb-false 4096 n c.1;
+      reach = fit.0;
+      near = fit.1;
+    }
+
+pub cut_sound : (size : ℕ) (state_at : ℕ → PageState) (buffer : List ℕ) → shape_bad size (length buffer) ≡ false → WellFormed (cut_pages size (pages_of size (length buffer)) state_at buffer)
+cut_sound size state_at buffer good =
     let n = pages_of size (length buffer) in
+    let fine = shape_fine size (length buffer) good in
     let c = cut-count size n state_at buffer in
     let l = cut-length size n state_at buffer in
-    let fits = (pages_fit size (length buffer) (omega (arith, fine.low))).0 in
     record {
       few = omega (arith, c, fine.few);
       low = fine.low;
       high = fine.high;
-      whole = λ k h. let less : k + 1 < n = omega (arith, c) in omega (arith, l k (omega arith), page_below size n (k + 1) less, add-mul k 1 size, one-mul size, fits);
-      some = λ k h. let less : k < n = omega (arith, c) in omega (arith, l k less, page_below size n k less, fits, fine.low);
+      whole = λ k h. let less : k + 1 < n = omega (arith, c) in omega (arith, l k (omega arith), page_below size n (k + 1) less, add-mul k 1 size, one-mul size, fine.near);
+      some = λ k h. let less : k < n = omega (arith, c) in omega (arith, l k less, page_below size n k less, fine.near, fine.low);
       most = λ k h. let less : k < n = omega (arith, c) in omega (arith, l k less);
     }
 
-pub image_sound : (ok : Bool) (size : ℕ) (state_at : ℕ → State) (buffer : List ℕ) → (ok ≡ true → shape_bad size (length buffer) ≡ false) → WellFormed (image_of ok size state_at buffer)
-image_sound ok size state_at buffer h =
-    made_sound ok (cut_pages size (pages_of size (length buffer)) state_at buffer) (λ e. cut_sound size state_at buffer (shape_fine size (length buffer) (h e)))
-
-pub bench_sound : (size q : ℕ) (buffer : List ℕ) → WellFormed (bench_made size q buffer)
-bench_sound size q buffer =
-    image_sound (is_ok (bench_answer size q (length buffer))) size (bench_state q) buffer
-    (row_passed (shape_bad size (length buffer)) ImageShape 0 (on (nat_lt (pages_of size (length buffer)) q) LockedPages 0 ∷ []))
-
 pub dump_sound : (size : ℕ) (states buffer : List ℕ) → WellFormed (dump_held size states buffer)
 dump_sound size states buffer =
-    image_sound _ size (dump_state states) buffer
-    (λ e. not-true (shape_bad size (length buffer)) (and_parts (not (shape_bad size (length buffer))) _ e).0)
+    made_sound (not (shape_bad size (length buffer)) && length states == pages_of size (length buffer)) (cut_pages size (pages_of size (length buffer)) (dump_state states) buffer)
+    (λ e. cut_sound size (dump_state states) buffer (not-true (shape_bad size (length buffer)) (and_parts (not (shape_bad size (length buffer))) _ e).0))

@@ -1,18 +1,34 @@
 // A bench image: a lent buffer that can be written, whose first pages are locked.
 ghost use Rattle.std.specs.Prelude.{◌≡◌, [], ◌∷◌, length};
-ghost use Rattle.bench.specs.Benches.{bench_answer, bench_made};
-ghost use Rattle.bench.specs.Sound.{bench_sound};
+ghost use Rattle.std.specs.Coded.{Coded-set};
+ghost use Rattle.fault.specs.Faults.{unless};
+ghost use Rattle.image.specs.Pages.{WellFormed, extent_of};
+ghost use Rattle.bench.specs.Benches.{bench_answer, bench_held, bench_made, bench_rows};
+ghost use Rattle.bench.specs.Buffers.{extent_over};
 
 use crate::cut;
 use fault::{Fault, Refusal};
-use image::{EditableImage, Extent, Image, check_write};
+use image::{EditableImage, Extent, Image, PageState};
 
-// It has what it was made from; where that is refused, it is an image of no pages.
+// Where its making was refused, it is an image of no pages.
 #[derive(Drop)]
 pub struct BenchImage<'a> {
     buffer: &'a mut [u8],
-    size: usize,
+    extent: Extent,
     locked: usize,
+    ghost large: { extent ≡ extent_of (bench_held extent locked buffer.now) } by { Coded-set extent-code _ _ },
+    ghost sound: { WellFormed (bench_held extent locked buffer.now) },
+}
+
+// How large the image of `len` bytes is, or why there is none.
+fn fitted(size: usize, locked: usize, len: usize) -> Result<Extent, Fault>
+    ensures { result ≡ unless (bench_rows size locked len) (extent_over size len) }
+{
+    let extent = cut::extent(size, len).ok_or(Fault::new(Refusal::ImageShape, 0))?;
+    if locked > extent.count {
+        return Err(Fault::new(Refusal::LockedPages, 0));
+    }
+    Ok(extent)
 }
 
 impl<'a> BenchImage<'a> {
@@ -20,76 +36,61 @@ impl<'a> BenchImage<'a> {
     pub fn check(size: usize, locked: usize, buffer: &[u8]) -> Result<(), Fault>
         ensures { result ≡ bench_answer size locked (length buffer.now) }
     {
-        if cut::is_bad(size, buffer.len()) {
-            return Err(Fault::new(Refusal::ImageShape, 0));
-        }
-        if locked > cut::pages_of(size, buffer.len()) {
-            return Err(Fault::new(Refusal::LockedPages, 0));
-        }
+        fitted(size, locked, buffer.len())?;
         Ok(())
     }
 
     // The image in `buffer`, where its writes land.
     pub fn make(size: usize, locked: usize, buffer: &'a mut [u8]) -> BenchImage<'a>
-        ensures meaning { bench_made result.size result.locked result.buffer.now ≡ bench_made size locked buffer.old }
+        ensures meaning { bench_held result.extent result.locked result.buffer.now ≡ bench_made size locked buffer.old }
         ensures bytes { result.buffer.now ≡ buffer.old }
         ensures lent { result.buffer.ghost_name ≡ buffer.entry.ghost_name }
-        ensures size { result.size ≡ size }
+        ensures extent { result.extent ≡ extent_of (bench_made size locked buffer.old) }
         ensures locked { result.locked ≡ locked }
     {
+        let extent = fitted(size, locked, buffer.len()).unwrap_or(Extent::none());
         BenchImage {
             buffer,
-            size,
+            extent,
             locked,
         }
     }
 }
 
 impl<'a> Image for BenchImage<'a> {
-    ghost meaning = { λ b. bench_made b.size b.locked b.buffer.now };
+    ghost meaning = { λ b. bench_held b.extent b.locked b.buffer.now };
 
-    ghost frame = { λ b. b.buffer.ghost_name ∷ b.size ∷ b.locked ∷ [] };
+    ghost frame = { λ b. b.buffer.ghost_name ∷ b.extent.size ∷ b.extent.count ∷ b.extent.last ∷ b.locked ∷ [] };
 
-    ghost sound = { λ b. bench_sound b.size b.locked b.buffer.now };
+    ghost sound = { λ b. b.sound };
 
     fn extent(&self) -> Extent {
-        if BenchImage::check(self.size, self.locked, self.buffer).is_err() {
-            return Extent::none();
+        self.extent
+    }
+
+    fn state(&self, page: usize) -> PageState {
+        if page >= self.extent.count {
+            return PageState::UNREADABLE;
         }
-        cut::extent(self.size, self.buffer.len())
-    }
-
-    fn is_readable(&self, page: usize) -> bool {
-        page < self.extent().count
-    }
-
-    fn is_locked(&self, page: usize) -> bool {
-        let count = self.extent().count;
-        page < count && page < self.locked
+        PageState {
+            readable: true,
+            locked: page < self.locked,
+        }
     }
 
     fn read(&self, page: usize, out: &mut [u8]) -> Result<(), Fault> {
-        let answer = self
-            .extent()
-            .check_read(page, out.len(), self.is_readable(page));
-        if answer.is_err() {
-            return answer;
-        }
-        let start = page * self.size;
-        out.copy_from_slice(&self.buffer[start..start + out.len()]);
+        self.check_read(page, out.len())?;
+        out.copy_from_slice(cut::page_in(self.buffer, self.extent.size, page));
         Ok(())
     }
 }
 
 impl<'a> EditableImage for BenchImage<'a> {
     fn write(&mut self, page: usize, bytes: &[u8]) -> Result<(), Fault> {
-        let answer = check_write(self, page, bytes.len());
-        if answer.is_err() {
-            return answer;
-        }
-        let at = page * self.size;
-        let end = at + bytes.len();
-        self.buffer[at..end].copy_from_slice(bytes);
+        self.check_write(page, bytes.len())?;
+        let start = page * self.extent.size;
+        let end = start + bytes.len();
+        self.buffer[start..end].copy_from_slice(bytes);
         Ok(())
     }
 }

@@ -5,9 +5,10 @@ ghost use Rattle.bench.specs.Sound.{dump_sound};
 
 use crate::cut;
 use fault::{Fault, Refusal};
-use image::{Extent, Image};
+use image::{Extent, Image, PageState};
 
-// The states are 0 fine, 1 locked and 2 unreadable.
+// It has what it was made from; where that is refused, it has no bytes, and so no pages.
+// It holds no extent: a struct with a ghost field gets no proof beside a lent buffer in a type argument, as in a pair of pairs.
 #[derive(Drop)]
 pub struct ChipDump<'a> {
     buffer: &'a [u8],
@@ -15,16 +16,13 @@ pub struct ChipDump<'a> {
     size: usize,
 }
 
-// Whether a state byte is none of the three.
+// Whether a state byte stands for no state.
 fn has_strange(states: &[u8]) -> bool
     ensures { result ≡ any_strange states.now }
 {
-    for state in states {
-        if *state > 2 {
-            return true;
-        }
-    }
-    false
+    states
+        .iter()
+        .any(|state| PageState::try_from(*state).is_err())
 }
 
 impl<'a> ChipDump<'a> {
@@ -32,10 +30,8 @@ impl<'a> ChipDump<'a> {
     pub fn check(size: usize, states: &[u8], buffer: &[u8]) -> Result<(), Fault>
         ensures { result ≡ dump_answer size states.now (length buffer.now) }
     {
-        if cut::is_bad(size, buffer.len()) {
-            return Err(Fault::new(Refusal::ImageShape, 0));
-        }
-        if states.len() != cut::pages_of(size, buffer.len()) || has_strange(states) {
+        let extent = cut::extent(size, buffer.len()).ok_or(Fault::new(Refusal::ImageShape, 0))?;
+        if states.len() != extent.count || has_strange(states) {
             return Err(Fault::new(Refusal::PageStates, 0));
         }
         Ok(())
@@ -45,18 +41,17 @@ impl<'a> ChipDump<'a> {
     pub fn make(size: usize, states: &'a [u8], buffer: &'a [u8]) -> ChipDump<'a>
         ensures { dump_held result.size result.states.now result.buffer.now ≡ dump_made size states.now buffer.now }
     {
-        if ChipDump::check(size, states, buffer).is_err() {
-            // 0 is no page length, so this one has no pages.
-            return ChipDump {
+        match ChipDump::check(size, states, buffer) {
+            Ok(()) => ChipDump {
                 buffer,
                 states,
-                size: 0,
-            };
-        }
-        ChipDump {
-            buffer,
-            states,
-            size,
+                size,
+            },
+            Err(_) => ChipDump {
+                buffer: &[],
+                states: &[],
+                size,
+            },
         }
     }
 }
@@ -69,30 +64,23 @@ impl<'a> Image for ChipDump<'a> {
     ghost sound = { λ d. dump_sound d.size d.states.now d.buffer.now };
 
     fn extent(&self) -> Extent {
-        let len = self.buffer.len();
-        if cut::is_bad(self.size, len) || self.states.len() != cut::pages_of(self.size, len) {
-            return Extent::none();
+        match cut::extent(self.size, self.buffer.len()) {
+            Some(extent) if extent.count == self.states.len() => extent,
+            _ => Extent::none(),
         }
-        cut::extent(self.size, len)
     }
 
-    fn is_readable(&self, page: usize) -> bool {
-        page < self.extent().count && self.states[page] != 2
-    }
-
-    fn is_locked(&self, page: usize) -> bool {
-        page < self.extent().count && self.states[page] == 1
+    fn state(&self, page: usize) -> PageState {
+        if page >= self.extent().count {
+            return PageState::UNREADABLE;
+        }
+        // A strange state byte was refused when the dump was made.
+        PageState::try_from(self.states[page]).unwrap_or(PageState::FINE)
     }
 
     fn read(&self, page: usize, out: &mut [u8]) -> Result<(), Fault> {
-        let answer = self
-            .extent()
-            .check_read(page, out.len(), self.is_readable(page));
-        if answer.is_err() {
-            return answer;
-        }
-        let start = page * self.size;
-        out.copy_from_slice(&self.buffer[start..start + out.len()]);
+        self.check_read(page, out.len())?;
+        out.copy_from_slice(cut::page_in(self.buffer, self.size, page));
         Ok(())
     }
 }

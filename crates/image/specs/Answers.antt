@@ -3,7 +3,8 @@ use Rattle.std.specs.Prelude.{ℕ, Bool, cond, not, List, [], ◌∷◌, ◌++�
 use Rattle.fault.specs.Faults.{Row, on, unless}
 use Rattle.fault.specs.declared.fault.Fault.{Fault}
 use Rattle.fault.specs.declared.refusal.Refusal.TheVariants.{PageAbsent, PageBuffer, PageUnreadable, PageLocked}
-use Rattle.image.specs.Pages.{Pages, State, count, page_at, length_at, with_page}
+use Rattle.image.specs.Pages.{Pages, count, page_at, length_at, with_page}
+use Rattle.image.specs.declared.state.PageState.{PageState}
 
 abbrev pub Answer : Type 0
 Answer = Result (Unit {0}) Fault
@@ -24,7 +25,7 @@ abbrev pub read_out : Pages → ℕ → List ℕ → List ℕ
 read_out m page out = cond (is_ok (read_answer m page (length out))) (page_at m page).bytes out
 
 -- Write of n bytes to a page: as a read, and then 38 the page is locked.
-abbrev pub write_rows : ℕ → ℕ → State → ℕ → ℕ → List Row
+abbrev pub write_rows : ℕ → ℕ → PageState → ℕ → ℕ → List Row
 write_rows count len state page n = read_rows count len state.readable page n ++ (on state.locked PageLocked page ∷ [])
 
 abbrev pub write_answer : Pages → ℕ → ℕ → Answer

@@ -1,19 +1,24 @@
 -- What an image is: a page length, and pages.
-use Rattle.std.specs.Prelude.{◌≡◌, ℕ, ◌+◌, ◌-◌, ◌<◌, ◌≤◌, Bool, false, cond, List, [], length, ◌==◌, nat_le, slice_index_or, slice_set}
+use Rattle.std.specs.Prelude.{◌≡◌, ℕ, ◌+◌, ◌-◌, ◌<◌, ◌≤◌, true, false, cond, if◌then◌else◌, Ok, Err, Result, List, [], length, ◌==◌, nat_le, slice_index_or, slice_set}
 use Rattle.image.specs.declared.extent.Extent.{Extent}
-
--- What may be done with a page.
-pub record State : Type 0 where
-  pub readable : Bool
-  pub locked : Bool
+use Rattle.image.specs.declared.state.PageState.{PageState}
+use Rattle.image.specs.declared.state.StrangeState.{StrangeState}
 
 pub record Page : Type 0 where
   pub bytes : List ℕ
-  pub state : State
+  pub state : PageState  -- what may be done with it
 
 pub record Pages : Type 0 where
   pub size : ℕ  -- the page length
   pub pages : List Page
+
+-- The state that a dump's state byte stands for: 0 fine, 1 locked, 2 unreadable.
+abbrev pub state_of : ℕ → Result PageState StrangeState
+state_of byte =
+    if byte == 0 then Ok (record { readable = true; locked = false })
+    else (if byte == 1 then Ok (record { readable = true; locked = true })
+    else (if byte == 2 then Ok (record { readable = false; locked = false })
+    else Err (record { 0 = byte })))
 
 -- What the questions about a page answer where there is none: no bytes, not readable, not locked.
 abbrev pub absent : Page

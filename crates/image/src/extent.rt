@@ -4,6 +4,7 @@ ghost use Rattle.fault.specs.Faults.{unless};
 ghost use Rattle.image.specs.Answers.{read_rows, write_rows};
 ghost use Rattle.image.specs.Pages.{extent_of, length_in, no_pages};
 
+use crate::PageState;
 use fault::{Fault, Refusal};
 
 // The page length, the number of pages, and the length of the last page, 0 of no pages.
@@ -39,9 +40,9 @@ impl Extent {
         self.size
     }
 
-    // What a read of a page into `len` bytes answers.
-    pub fn check_read(self, page: usize, len: usize, readable: bool) -> Result<(), Fault>
-        ensures { result ≡ unless (read_rows self.count (length_in self page) readable page len) tt }
+    // What a read of a page in this state into `len` bytes answers.
+    pub fn check_read(self, page: usize, len: usize, state: PageState) -> Result<(), Fault>
+        ensures { result ≡ unless (read_rows self.count (length_in self page) state.readable page len) tt }
     {
         if page >= self.count {
             return Err(Fault::new(Refusal::PageAbsent, page));
@@ -49,27 +50,18 @@ impl Extent {
         if len != self.length_of(page) {
             return Err(Fault::new(Refusal::PageBuffer, page));
         }
-        if !readable {
+        if !state.readable {
             return Err(Fault::new(Refusal::PageUnreadable, page));
         }
         Ok(())
     }
 
-    // What a write of `len` bytes to a page answers.
-    pub fn check_write(
-        self,
-        page: usize,
-        len: usize,
-        readable: bool,
-        locked: bool,
-    ) -> Result<(), Fault>
-        ensures { result ≡ unless (write_rows self.count (length_in self page) (record { readable = readable; locked = locked }) page len) tt }
+    // What a write of `len` bytes to a page in this state answers.
+    pub fn check_write(self, page: usize, len: usize, state: PageState) -> Result<(), Fault>
+        ensures { result ≡ unless (write_rows self.count (length_in self page) state page len) tt }
     {
-        let answer = self.check_read(page, len, readable);
-        if answer.is_err() {
-            return answer;
-        }
-        if locked {
+        self.check_read(page, len, state)?;
+        if state.locked {
             return Err(Fault::new(Refusal::PageLocked, page));
         }
         Ok(())

@@ -4,7 +4,7 @@ ghost use Rattle.std.specs.Borrow.{GName};
 ghost use Rattle.image.specs.Answers.{read_answer, read_out, write_answer, written};
 ghost use Rattle.image.specs.Pages.{Pages, WellFormed, count, extent_of, length_at, page_at};
 
-use crate::Extent;
+use crate::{Extent, PageState};
 use fault::Fault;
 
 // An image that can be read.
@@ -23,13 +23,9 @@ pub trait Image {
     fn extent(&self) -> Extent
         ensures { result ≡ extent_of (meaning self.now) };
 
-    // Whether a page can be read; an absent one cannot.
-    fn is_readable(&self, page: usize) -> bool
-        ensures { result ≡ (page_at (meaning self.now) page).state.readable };
-
-    // Whether a page is locked; an absent one is not.
-    fn is_locked(&self, page: usize) -> bool
-        ensures { result ≡ (page_at (meaning self.now) page).state.locked };
+    // What may be done with a page; with an absent one, nothing.
+    fn state(&self, page: usize) -> PageState
+        ensures { result ≡ (page_at (meaning self.now) page).state };
 
     // Copies a page into `out`, which must be as long as the page.
     fn read(&self, page: usize, out: &mut [u8]) -> Result<(), Fault>
@@ -53,6 +49,34 @@ pub trait Image {
         ensures { result ≡ length_at (meaning self.now) page }
     {
         self.extent().length_of(page)
+    }
+
+    // Whether a page can be read; an absent one cannot.
+    fn is_readable(&self, page: usize) -> bool
+        ensures { result ≡ (page_at (meaning self.now) page).state.readable }
+    {
+        self.state(page).readable
+    }
+
+    // Whether a page is locked; an absent one is not.
+    fn is_locked(&self, page: usize) -> bool
+        ensures { result ≡ (page_at (meaning self.now) page).state.locked }
+    {
+        self.state(page).locked
+    }
+
+    // Whether a page can be read into `len` bytes, for one who must know before.
+    fn check_read(&self, page: usize, len: usize) -> Result<(), Fault>
+        ensures { result ≡ read_answer (meaning self.now) page len }
+    {
+        self.extent().check_read(page, len, self.state(page))
+    }
+
+    // Whether `len` bytes can be written to a page, for one who must know before.
+    fn check_write(&self, page: usize, len: usize) -> Result<(), Fault>
+        ensures { result ≡ write_answer (meaning self.now) page len }
+    {
+        self.extent().check_write(page, len, self.state(page))
     }
 }
 

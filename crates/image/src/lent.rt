@@ -1,7 +1,7 @@
 // An image that is lent to be read.
 ghost use Rattle.std.specs.Prelude.{◌≡◌, []};
 
-use crate::{Extent, Image};
+use crate::{Extent, Image, PageState};
 use fault::Fault;
 
 #[derive(Drop)]
@@ -29,12 +29,8 @@ impl<'a, I: Image> Image for Lent<'a, I> {
         self.image.extent()
     }
 
-    fn is_readable(&self, page: usize) -> bool {
-        self.image.is_readable(page)
-    }
-
-    fn is_locked(&self, page: usize) -> bool {
-        self.image.is_locked(page)
+    fn state(&self, page: usize) -> PageState {
+        self.image.state(page)
     }
 
     fn read(&self, page: usize, out: &mut [u8]) -> Result<(), Fault> {

@@ -4,52 +4,55 @@
 #[cfg(test)]
 mod tests {
     use bench::{BenchImage, ChipDump};
-    use fault::Fault;
+    use fault::{Fault, Refusal};
     use image::{EditableImage, Image, Lent};
     use pair::Pair;
     use std::process::Abort;
 
-    // An answer's number and place; both 0 where nothing is refused.
-    fn outcome(answer: Result<(), Fault>) -> (u32, usize) {
-        match answer {
-            Ok(()) => (0, 0),
-            Err(fault) => (u32::from(fault.number), fault.place),
-        }
+    // An answer without the fault's module: what is refused, and at which place.
+    fn outcome(answer: Result<(), Fault>) -> Result<(), (Refusal, usize)> {
+        answer.map_err(|fault| (fault.number, fault.place))
     }
 
     // Rows of a page, its length, whether it is readable, and whether it is locked.
     fn ask<I: Image>(rt: &impl Abort, image: &I, rows: &[(usize, usize, bool, bool)]) {
-        for row in rows {
-            let (page, len, readable, locked) = *row;
+        for &(page, len, readable, locked) in rows {
             assert_eq!(rt; image.length_of(page), len);
             assert_eq!(rt; image.is_readable(page), readable);
             assert_eq!(rt; image.is_locked(page), locked);
         }
     }
 
-    // Rows of a page, a buffer's length, the number that a read answers, and the first byte of the buffer, 7 before, after it.
-    fn read<I: Image>(rt: &impl Abort, image: &I, rows: &[(usize, usize, u32, u8)]) {
-        for row in rows {
-            let (page, len, number, first) = *row;
+    // Rows of a page, a buffer's length, what a read answers, and the first byte of the buffer, 7 before, after it.
+    fn read<I: Image>(
+        rt: &impl Abort,
+        image: &I,
+        rows: &[(usize, usize, Result<(), Refusal>, u8)],
+    ) {
+        for &(page, len, answer, first) in rows {
             let mut out = [7; 65];
             assert!(rt; 0 < len && len <= 65);
-            let place = if number == 0 { 0 } else { page };
             assert_eq!(rt;
                 outcome(image.read(page, &mut out[0..len])),
-                (number, place)
+                answer.map_err(|refusal| (refusal, page))
             );
             assert_eq!(rt; out[0], first);
         }
     }
 
-    // Rows of a page, how many bytes are written, all 9, and the number that this answers.
-    fn write<I: EditableImage>(rt: &impl Abort, image: &mut I, rows: &[(usize, usize, u32)]) {
-        for row in rows {
-            let (page, len, number) = *row;
+    // Rows of a page, how many bytes are written, all 9, and what this answers.
+    fn write<I: EditableImage>(
+        rt: &impl Abort,
+        image: &mut I,
+        rows: &[(usize, usize, Result<(), Refusal>)],
+    ) {
+        for &(page, len, answer) in rows {
             let bytes = [9; 65];
             assert!(rt; len <= 65);
-            let place = if number == 0 { 0 } else { page };
-            assert_eq!(rt; outcome(image.write(page, &bytes[0..len])), (number, place));
+            assert_eq!(rt;
+                outcome(image.write(page, &bytes[0..len])),
+                answer.map_err(|refusal| (refusal, page))
+            );
         }
     }
 
@@ -85,15 +88,15 @@ mod tests {
             &rt,
             &image,
             &[
-                (0, 64, 0, 1),
-                (1, 65, 36, 7),
-                (3, 64, 0, 2),
-                (4, 63, 36, 7),
-                (4, 64, 37, 7),
-                (5, 64, 0, 3),
-                (6, 36, 0, 3),
-                (6, 64, 36, 7),
-                (7, 64, 35, 7),
+                (0, 64, Ok(()), 1),
+                (1, 65, Err(Refusal::PageBuffer), 7),
+                (3, 64, Ok(()), 2),
+                (4, 63, Err(Refusal::PageBuffer), 7),
+                (4, 64, Err(Refusal::PageUnreadable), 7),
+                (5, 64, Ok(()), 3),
+                (6, 36, Ok(()), 3),
+                (6, 64, Err(Refusal::PageBuffer), 7),
+                (7, 64, Err(Refusal::PageAbsent), 7),
             ],
         );
     }
@@ -113,25 +116,25 @@ mod tests {
             &rt,
             &mut image,
             &[
-                (0, 64, 38),
-                (1, 64, 0),
-                (2, 63, 36),
-                (3, 64, 38),
-                (3, 65, 36),
-                (4, 36, 0),
-                (4, 64, 36),
-                (5, 36, 35),
+                (0, 64, Err(Refusal::PageLocked)),
+                (1, 64, Ok(())),
+                (2, 63, Err(Refusal::PageBuffer)),
+                (3, 64, Err(Refusal::PageLocked)),
+                (3, 65, Err(Refusal::PageBuffer)),
+                (4, 36, Ok(())),
+                (4, 64, Err(Refusal::PageBuffer)),
+                (5, 36, Err(Refusal::PageAbsent)),
             ],
         );
         read(
             &rt,
             &image,
             &[
-                (0, 64, 0, 1),
-                (1, 64, 0, 9),
-                (2, 64, 0, 2),
-                (3, 64, 0, 3),
-                (4, 36, 0, 9),
+                (0, 64, Ok(()), 1),
+                (1, 64, Ok(()), 9),
+                (2, 64, Ok(()), 2),
+                (3, 64, Ok(()), 3),
+                (4, 36, Ok(()), 9),
             ],
         );
         assert!(rt; front[63] == 1 && front[64] == 9 && front[127] == 9);
@@ -140,48 +143,68 @@ mod tests {
     }
 
     // A bench image of `len` bytes: what its check answers, and what is made.
-    fn bench(rt: &impl Abort, size: usize, locked: usize, len: usize, number: u32) {
+    fn bench(rt: &impl Abort, size: usize, locked: usize, len: usize, answer: Result<(), Refusal>) {
         let mut bytes = [0; 262145];
         assert!(rt; len <= 262145);
         assert_eq!(rt;
             outcome(BenchImage::check(size, locked, &bytes[0..len])),
-            (number, 0)
+            answer.map_err(|refusal| (refusal, 0))
         );
         let image = BenchImage::make(size, locked, &mut bytes[0..len]);
-        assert_eq!(rt; image.page_count() == 0, number != 0);
-        assert_eq!(rt; image.page_length(), if number == 0 { size } else { 64 });
+        assert_eq!(rt; image.page_count() == 0, answer.is_err());
+        assert_eq!(rt; image.page_length(), if answer.is_ok() { size } else { 64 });
     }
 
     #[test]
     fn benches_are_checked(rt: HostRuntime) {
         let rows = [
-            (63, 0, 128, 31),
-            (4097, 0, 8192, 31),
-            (64, 5000, 0, 31),
-            (64, 0, 262145, 31),
-            (64, 4096, 262144, 0),
-            (64, 3, 100, 33),
-            (64, 2, 100, 0),
-            (4096, 1, 1, 0),
+            (63, 0, 128, Err(Refusal::ImageShape)),
+            (4097, 0, 8192, Err(Refusal::ImageShape)),
+            (64, 5000, 0, Err(Refusal::ImageShape)),
+            (64, 0, 262145, Err(Refusal::ImageShape)),
+            (64, 4096, 262144, Ok(())),
+            (64, 3, 100, Err(Refusal::LockedPages)),
+            (64, 2, 100, Ok(())),
+            (4096, 1, 1, Ok(())),
         ];
-        for row in &rows {
-            let (size, locked, len, number) = *row;
-            bench(&rt, size, locked, len, number);
+        for &(size, locked, len, answer) in &rows {
+            bench(&rt, size, locked, len, answer);
         }
     }
 
     #[test]
     fn dumps_are_checked(rt: HostRuntime) {
         let bytes = [0; 100];
-        assert_eq!(rt; outcome(ChipDump::check(64, &[0, 2], &bytes)), (0, 0));
-        assert_eq!(rt; outcome(ChipDump::check(64, &[0, 3], &bytes)), (32, 0));
-        assert_eq!(rt; outcome(ChipDump::check(64, &[0], &bytes)), (32, 0));
-        assert_eq!(rt; outcome(ChipDump::check(64, &[0, 0, 0], &bytes)), (32, 0));
-        assert_eq!(rt; outcome(ChipDump::check(63, &[3], &bytes)), (31, 0));
+        let rows: [(usize, &[u8], Result<(), Refusal>); 5] = [
+            (64, &[0, 2], Ok(())),
+            (64, &[0, 3], Err(Refusal::PageStates)),
+            (64, &[0], Err(Refusal::PageStates)),
+            (64, &[0, 0, 0], Err(Refusal::PageStates)),
+            (63, &[3], Err(Refusal::ImageShape)),
+        ];
+        for &(size, states, answer) in &rows {
+            assert_eq!(rt;
+                outcome(ChipDump::check(size, states, &bytes)),
+                answer.map_err(|refusal| (refusal, 0))
+            );
+        }
         let none = ChipDump::make(64, &[0, 3], &bytes);
         assert_eq!(rt; none.page_count(), 0);
         assert_eq!(rt; none.page_length(), 64);
-        read(&rt, &none, &[(0, 64, 35, 7)]);
+        read(&rt, &none, &[(0, 64, Err(Refusal::PageAbsent), 7)]);
+    }
+
+    // What the check of a pair answers.
+    fn check<A: Image, B: Image>(
+        rt: &impl Abort,
+        first: &A,
+        second: &B,
+        answer: Result<(), Refusal>,
+    ) {
+        assert_eq!(rt;
+            outcome(Pair::check(first, second)),
+            answer.map_err(|refusal| (refusal, 0))
+        );
     }
 
     #[test]
@@ -195,15 +218,22 @@ mod tests {
         let ragged = ChipDump::make(64, &[0, 0], &short);
         let full = ChipDump::make(64, &states, &many);
         let none = ChipDump::make(64, &[3], &whole);
-        assert_eq!(rt; outcome(Pair::check(&two, &ragged)), (0, 0));
-        assert_eq!(rt; outcome(Pair::check(&ragged, &two)), (34, 0));
-        assert_eq!(rt; outcome(Pair::check(&two, &one)), (34, 0));
-        assert_eq!(rt; outcome(Pair::check(&two, &none)), (34, 0));
-        assert_eq!(rt; outcome(Pair::check(&none, &two)), (34, 0));
-        assert_eq!(rt; outcome(Pair::check(&two, &full)), (34, 0));
+        check(&rt, &two, &ragged, Ok(()));
+        check(&rt, &ragged, &two, Err(Refusal::PairParts));
+        check(&rt, &two, &one, Err(Refusal::PairParts));
+        check(&rt, &two, &none, Err(Refusal::PairParts));
+        check(&rt, &none, &two, Err(Refusal::PairParts));
+        check(&rt, &two, &full, Err(Refusal::PairParts));
         let refused = Pair::make(ragged, two);
         assert_eq!(rt; refused.page_count(), 0);
         assert_eq!(rt; refused.page_length(), 64);
-        read(&rt, &refused, &[(0, 64, 35, 7), (1, 64, 35, 7)]);
+        read(
+            &rt,
+            &refused,
+            &[
+                (0, 64, Err(Refusal::PageAbsent), 7),
+                (1, 64, Err(Refusal::PageAbsent), 7),
+            ],
+        );
     }
 }

@@ -1,70 +1,31 @@
 -- A pair that is joined, by its parts.
-use Rattle.std.proofs.Common.{◌≡◌, ℕ, ◌+◌, ◌-◌, ◌<◌, ◌≤◌, Bool, true, false, cond, not, eqb, leb, List, [], ◌∷◌, length, is_ok, IfErr, Ok, Err, sym, refl, ap, ◌∙◌, subst, ⊎_elim, arith}
+use Rattle.std.proofs.Common.{◌≡◌, ℕ, ◌+◌, ◌-◌, ◌<◌, ◌≤◌, Bool, true, false, cond, not, eqb, leb, List, [], ◌∷◌, length, is_ok, Ok, Err, Some, None, unwrap_or, sym, refl, ap, ◌∙◌, ⊎_elim, arith}
 use Rattle.std.proofs.lemmas.Bool.{cond-true, le-leb, lt-leb, cases_lt}
+use Rattle.std.proofs.lemmas.Bool.Decides.{nat_tests}
 use Rattle.fault.specs.Faults.{on, unless}
 use Rattle.fault.specs.declared.refusal.Refusal.TheVariants.{PageAbsent, PageBuffer, PageUnreadable, PageLocked, PairParts}
 use Rattle.image.specs.Answers.{Answer, read_answer, read_out, write_answer}
-use Rattle.image.specs.Pages.{Page, Pages, State, count, page_at, length_at, extent_of}
+use Rattle.image.specs.Pages.{Page, Pages, count, page_at, length_at, extent_of, no_pages}
 use Rattle.image.specs.declared.extent.Extent.{Extent}
-use Rattle.pair.specs.Pairs.{joined, pair_answer, pair_made, parts_bad, recounted}
+use Rattle.image.specs.declared.state.PageState.{PageState}
+use Rattle.pair.specs.Pairs.{joined, joined_extent, pair_answer, pair_made, part_at, parts_bad}
 use Rattle.pair.specs.Sound.{accepted, joined-count, front_at, back_at}
-
--- a read's and a write's answer by their tests: the page is absent, the buffer is wrong, and the page's state
-abbrev read_by : Bool → Bool → Bool → ℕ → Answer
-read_by gone wrong readable page = unless (on gone PageAbsent page ∷ on wrong PageBuffer page ∷ on (not readable) PageUnreadable page ∷ []) tt
-
-abbrev write_by : Bool → Bool → State → ℕ → Answer
-write_by gone wrong state page =
-    unless (on gone PageAbsent page ∷ on wrong PageBuffer page ∷ on (not state.readable) PageUnreadable page ∷ on state.locked PageLocked page ∷ []) tt
-
-read_recounted : (gone wrong readable : Bool) (page by : ℕ) → recounted by (read_by gone wrong readable page) ≡ read_by gone wrong readable (page + by)
-read_recounted true wrong readable page by = refl
-read_recounted false true readable page by = refl
-read_recounted false false false page by = refl
-read_recounted false false true page by = refl
-
-write_recounted : (gone wrong readable locked : Bool) (page by : ℕ)
-    → recounted by (write_by gone wrong (record { readable = readable; locked = locked }) page) ≡ write_by gone wrong (record { readable = readable; locked = locked }) (page + by)
-write_recounted true wrong readable locked page by = refl
-write_recounted false true readable locked page by = refl
-write_recounted false false false locked page by = refl
-write_recounted false false true true page by = refl
-write_recounted false false true false page by = refl
-
--- the place of a refusal is the page
-read_place : (gone wrong readable : Bool) (page by limit : ℕ) → page + by < limit → IfErr (read_by gone wrong readable page) (λ f. f.place + by < limit)
-read_place true wrong readable page by limit h = h
-read_place false true readable page by limit h = h
-read_place false false false page by limit h = h
-read_place false false true page by limit h = tt
-
-write_place : (gone wrong readable locked : Bool) (page by limit : ℕ) → page + by < limit
-    → IfErr (write_by gone wrong (record { readable = readable; locked = locked }) page) (λ f. f.place + by < limit)
-write_place true wrong readable locked page by limit h = h
-write_place false true readable locked page by limit h = h
-write_place false false false locked page by limit h = h
-write_place false false true true page by limit h = h
-write_place false false true false page by limit h = tt
-
--- re-counting refuses nothing, and accepts nothing
-pub recounted_ok : (by : ℕ) (r : Answer) → is_ok (recounted by r) ≡ is_ok r
-recounted_ok by (Ok u) = refl
-recounted_ok by (Err f) = refl
+use Rattle.pair.specs.declared.pair.Part.TheVariants.{First, Second}
 
 module _ (a b : Pages) (ok : is_ok (pair_answer a b) ≡ true) where
   pub made_is : pair_made a b ≡ joined a b
   made_is = cond-true (is_ok (pair_answer a b)) _ _ ok
 
-  pub made-count : count (pair_made a b) ≡ count a + count b
+  made-count : count (pair_made a b) ≡ count a + count b
   made-count = ap count made_is ∙ joined-count a b
 
-  pub made_front : (k : ℕ) → k < count a → page_at (pair_made a b) k ≡ page_at a k
+  made_front : (k : ℕ) → k < count a → page_at (pair_made a b) k ≡ page_at a k
   made_front k h = ap (λ m. page_at m k) made_is ∙ front_at a b k h
 
-  pub made_back : (k : ℕ) → count a ≤ k → page_at (pair_made a b) k ≡ page_at b (k - count a)
+  made_back : (k : ℕ) → count a ≤ k → page_at (pair_made a b) k ≡ page_at b (k - count a)
   made_back k h = ap (λ m. page_at m k) made_is ∙ back_at a b k h
 
-  pub made_extent : record { size = a.size; count = count a + count b; last = (extent_of b).last } ≡ extent_of (pair_made a b)
+  made_extent : record { size = a.size; count = count a + count b; last = (extent_of b).last } ≡ extent_of (pair_made a b)
   made_extent =
       let fit = accepted a b ok in
       let here : count a + count b - 1 - count a ≡ count b - 1 = omega (arith, fit.more) in
@@ -74,80 +35,154 @@ module _ (a b : Pages) (ok : is_ok (pair_answer a b) ≡ true) where
       ∙ ap (λ n. record { size = a.size; count = n; last = length_at (pair_made a b) (n - 1) }) (sym made-count)
       ∙ ap (λ (m : Pages). record { size = m.size; count = count (pair_made a b); last = length_at (pair_made a b) (count (pair_made a b) - 1) }) (sym made_is)
 
-  gone_front : (k : ℕ) → k < count a → leb (count (pair_made a b)) k ≡ leb (count a) k
-  gone_front k h = lt-leb (count (pair_made a b)) k (omega (arith, made-count)) ∙ sym (lt-leb (count a) k h)
+-- how large the pair is, read off its parts' extents
+extent_by : (a b : Pages) (bad : Bool) → parts_bad (extent_of a) (extent_of b) ≡ bad
+    → unwrap_or (cond bad None (Some (record { size = a.size; count = count a + count b; last = (extent_of b).last }))) (extent_of no_pages) ≡ extent_of (pair_made a b)
+extent_by a b true e = ap (λ bad. extent_of (cond (is_ok (unless {A = Unit {0}} (on bad PairParts 0 ∷ []) tt)) (joined a b) no_pages)) (sym e)
+extent_by a b false e = made_extent a b (ap (λ bad. is_ok (unless {A = Unit {0}} (on bad PairParts 0 ∷ []) tt)) e)
 
-  gone_back : (k : ℕ) → count a ≤ k → leb (count (pair_made a b)) k ≡ leb (count b) (k - count a)
-  gone_back k h = ⊎_elim
-      (λ l. lt-leb (count (pair_made a b)) k (omega (arith, made-count)) ∙ sym (lt-leb (count b) (k - count a) l))
-      (λ l. le-leb (count (pair_made a b)) k (omega (arith, made-count)) ∙ sym (le-leb (count b) (k - count a) l))
-      (cases_lt (k - count a) (count b))
+-- as the code has it: x and y are what the parts' extents were asked as
+pub extent_joined : (a b : Pages) (x y none : Extent) → x ≡ extent_of a → y ≡ extent_of b → none ≡ extent_of no_pages
+    → unwrap_or (joined_extent x y) none ≡ extent_of (pair_made a b)
+extent_joined a b x y none ex ey nothing =
+    ap (λ e. unwrap_or (joined_extent e y) none) ex
+    ∙ ap (λ e. unwrap_or (joined_extent (extent_of a) e) none) ey
+    ∙ ap (unwrap_or (joined_extent (extent_of a) (extent_of b))) nothing
+    ∙ extent_by a b (parts_bad (extent_of a) (extent_of b)) refl
 
-  pub read_front : (k n : ℕ) → k < count a → read_answer (pair_made a b) k n ≡ read_answer a k n
-  read_front k n h =
-      ap (λ t. read_by t (not (eqb n (length_at (pair_made a b) k))) (page_at (pair_made a b) k).state.readable k) (gone_front k h)
-      ∙ ap (λ (p : Page). read_by (leb (count a) k) (not (eqb n (length p.bytes))) p.state.readable k) (made_front k h)
+-- the same answer, its fault about page k
+abbrev pub about_page : ℕ → Answer → Answer
+about_page k (Ok u) = Ok u
+about_page k (Err f) = Err (record { number = f.number; «module» = f.«module»; place = k })
 
-  pub read_back : (k n : ℕ) → count a ≤ k → read_answer (pair_made a b) k n ≡ recounted (count a) (read_answer b (k - count a) n)
-  read_back k n h =
-      let e : k - count a + count a ≡ k = omega arith in
-      let q = page_at b (k - count a) in
-      let gone = leb (count b) (k - count a) in
-      ap (λ t. read_by t (not (eqb n (length_at (pair_made a b) k))) (page_at (pair_made a b) k).state.readable k) (gone_back k h)
-      ∙ ap (λ (p : Page). read_by gone (not (eqb n (length p.bytes))) p.state.readable k) (made_back k h)
-      ∙ ap (read_by gone (not (eqb n (length q.bytes))) q.state.readable) (sym e)
-      ∙ sym (read_recounted gone (not (eqb n (length q.bytes))) q.state.readable (k - count a) (count a))
+about_ok : (k : ℕ) (r : Answer) → is_ok (about_page k r) ≡ is_ok r
+about_ok k (Ok u) = refl
+about_ok k (Err f) = refl
 
-  pub out_front : (k : ℕ) (out : List ℕ) → k < count a → read_out (pair_made a b) k out ≡ read_out a k out
-  out_front k out h =
-      ap (λ r. cond (is_ok r) (page_at (pair_made a b) k).bytes out) (read_front k (length out) h)
-      ∙ ap (λ (p : Page). cond (is_ok (read_answer a k (length out))) p.bytes out) (made_front k h)
+-- a read's and a write's answer by their tests: the page is absent, the buffer is wrong, and the page's state
+abbrev read_by : Bool → Bool → Bool → ℕ → Answer
+read_by gone wrong readable page = unless (on gone PageAbsent page ∷ on wrong PageBuffer page ∷ on (not readable) PageUnreadable page ∷ []) tt
 
-  pub out_back : (k : ℕ) (out : List ℕ) → count a ≤ k → read_out (pair_made a b) k out ≡ read_out b (k - count a) out
-  out_back k out h =
-      ap (λ r. cond (is_ok r) (page_at (pair_made a b) k).bytes out) (read_back k (length out) h)
-      ∙ ap (λ r. cond r (page_at (pair_made a b) k).bytes out) (recounted_ok (count a) (read_answer b (k - count a) (length out)))
-      ∙ ap (λ (p : Page). cond (is_ok (read_answer b (k - count a) (length out))) p.bytes out) (made_back k h)
+abbrev write_by : Bool → Bool → PageState → ℕ → Answer
+write_by gone wrong state page =
+    unless (on gone PageAbsent page ∷ on wrong PageBuffer page ∷ on (not state.readable) PageUnreadable page ∷ on state.locked PageLocked page ∷ []) tt
 
-  pub write_front : (k n : ℕ) → k < count a → write_answer (pair_made a b) k n ≡ write_answer a k n
-  write_front k n h =
-      ap (λ t. write_by t (not (eqb n (length_at (pair_made a b) k))) (page_at (pair_made a b) k).state k) (gone_front k h)
-      ∙ ap (λ (p : Page). write_by (leb (count a) k) (not (eqb n (length p.bytes))) p.state k) (made_front k h)
+read_about : (gone wrong readable : Bool) (page k : ℕ) → about_page k (read_by gone wrong readable page) ≡ read_by gone wrong readable k
+read_about true wrong readable page k = refl
+read_about false true readable page k = refl
+read_about false false false page k = refl
+read_about false false true page k = refl
 
-  pub write_back : (k n : ℕ) → count a ≤ k → write_answer (pair_made a b) k n ≡ recounted (count a) (write_answer b (k - count a) n)
-  write_back k n h =
-      let e : k - count a + count a ≡ k = omega arith in
-      let q = page_at b (k - count a) in
-      let gone = leb (count b) (k - count a) in
-      ap (λ t. write_by t (not (eqb n (length_at (pair_made a b) k))) (page_at (pair_made a b) k).state k) (gone_back k h)
-      ∙ ap (λ (p : Page). write_by gone (not (eqb n (length p.bytes))) p.state k) (made_back k h)
-      ∙ ap (write_by gone (not (eqb n (length q.bytes))) q.state) (sym e)
-      ∙ sym (write_recounted gone (not (eqb n (length q.bytes))) q.state.readable q.state.locked (k - count a) (count a))
+write_about : (gone wrong readable locked : Bool) (page k : ℕ)
+    → about_page k (write_by gone wrong (record { readable = readable; locked = locked }) page) ≡ write_by gone wrong (record { readable = readable; locked = locked }) k
+write_about true wrong readable locked page k = refl
+write_about false true readable locked page k = refl
+write_about false false false locked page k = refl
+write_about false false true true page k = refl
+write_about false false true false page k = refl
 
--- as the code has them: x and y are what the parts' extents were asked as
-pub extent_joined : (a b : Pages) (x y : Extent) → x ≡ extent_of a → y ≡ extent_of b → parts_bad x y ≡ false
-    → record { size = x.size; count = x.count + y.count; last = y.last } ≡ extent_of (pair_made a b)
-extent_joined a b x y ex ey good =
-    let fine : parts_bad (extent_of a) (extent_of b) ≡ false = ap (λ e. parts_bad e (extent_of b)) (sym ex) ∙ ap (parts_bad x) (sym ey) ∙ good in
-    ap (λ (e : Extent). record { size = e.size; count = e.count + y.count; last = y.last }) ex
-    ∙ ap (λ (e : Extent). record { size = a.size; count = count a + e.count; last = e.last }) ey
-    ∙ made_extent a b (ap (λ bad. is_ok (unless {A = Unit {0}} (on bad PairParts 0 ∷ []) tt)) fine)
+-- page k of the pair is page `there` of m, which is one of its parts
+pub record IsPage (a b : Pages) (k : ℕ) (m : Pages) (there : ℕ) : Type 0 where
+  pub ok : is_ok (pair_answer a b) ≡ true
+  pub gone : leb (count (pair_made a b)) k ≡ leb (count m) there
+  pub same : page_at (pair_made a b) k ≡ page_at m there
 
--- and `front` is what the first part's count was asked as
-module _ (a b : Pages) (ok : is_ok (pair_answer a b) ≡ true) (k front : ℕ) (f : front ≡ count a) (h : front ≤ k) where
-  pub read_fits : (n limit : ℕ) → k < limit → (r : Answer) → r ≡ read_answer b (k - front) n → IfErr r (λ x. x.place + front < limit)
-  read_fits n limit l r e = subst (λ x. IfErr x (λ y. y.place + front < limit)) (sym e)
-      (read_place (leb (count b) (k - front)) (not (eqb n (length_at b (k - front)))) (page_at b (k - front)).state.readable (k - front) front limit (omega arith))
+module _ (a b : Pages) (k : ℕ) (m : Pages) (there : ℕ) (p : IsPage a b k m there) where
+  pub read_is : (n : ℕ) → read_answer (pair_made a b) k n ≡ about_page k (read_answer m there n)
+  read_is n =
+      let q = page_at m there in
+      ap (λ t. read_by t (not (eqb n (length_at (pair_made a b) k))) (page_at (pair_made a b) k).state.readable k) p.gone
+      ∙ ap (λ (x : Page). read_by (leb (count m) there) (not (eqb n (length x.bytes))) x.state.readable k) p.same
+      ∙ sym (read_about (leb (count m) there) (not (eqb n (length q.bytes))) q.state.readable there k)
 
-  pub write_fits : (n limit : ℕ) → k < limit → (r : Answer) → r ≡ write_answer b (k - front) n → IfErr r (λ x. x.place + front < limit)
-  write_fits n limit l r e = subst (λ x. IfErr x (λ y. y.place + front < limit)) (sym e)
-      (write_place (leb (count b) (k - front)) (not (eqb n (length_at b (k - front)))) (page_at b (k - front)).state.readable (page_at b (k - front)).state.locked (k - front) front limit (omega arith))
+  pub write_is : (n : ℕ) → write_answer (pair_made a b) k n ≡ about_page k (write_answer m there n)
+  write_is n =
+      let q = page_at m there in
+      ap (λ t. write_by t (not (eqb n (length_at (pair_made a b) k))) (page_at (pair_made a b) k).state k) p.gone
+      ∙ ap (λ (x : Page). write_by (leb (count m) there) (not (eqb n (length x.bytes))) x.state k) p.same
+      ∙ sym (write_about (leb (count m) there) (not (eqb n (length q.bytes))) q.state.readable q.state.locked there k)
 
-  pub second_read : (n : ℕ) (r : Answer) → r ≡ read_answer b (k - front) n → recounted front r ≡ read_answer (pair_made a b) k n
-  second_read n r e = ap (recounted front) e ∙ ap (λ x. recounted x (read_answer b (k - x) n)) f ∙ sym (read_back a b ok k n (omega arith))
+  pub write_ok : (n : ℕ) → is_ok (write_answer (pair_made a b) k n) ≡ is_ok (write_answer m there n)
+  write_ok n = ap is_ok (write_is n) ∙ about_ok k (write_answer m there n)
 
-  pub second_out : (out o : List ℕ) → o ≡ read_out b (k - front) out → o ≡ read_out (pair_made a b) k out
-  second_out out o e = e ∙ ap (λ x. read_out b (k - x) out) f ∙ sym (out_back a b ok k out (omega arith))
+  pub out_is : (out : List ℕ) → read_out (pair_made a b) k out ≡ read_out m there out
+  out_is out =
+      ap (λ r. cond r (page_at (pair_made a b) k).bytes out) (ap is_ok (read_is (length out)) ∙ about_ok k (read_answer m there (length out)))
+      ∙ ap (λ (x : Page). cond (is_ok (read_answer m there (length out))) x.bytes out) p.same
 
-  pub second_write : (n : ℕ) (r : Answer) → r ≡ write_answer b (k - front) n → recounted front r ≡ write_answer (pair_made a b) k n
-  second_write n r e = ap (recounted front) e ∙ ap (λ x. recounted x (write_answer b (k - x) n)) f ∙ sym (write_back a b ok k n (omega arith))
+-- what the part of page k says
+pub record InFirst (a b : Pages) (k there : ℕ) : Type 0 where
+  pub page : IsPage a b k a there
+  pub less : k < count a
+  pub same : there ≡ k
+
+pub record InSecond (a b : Pages) (k there : ℕ) : Type 0 where
+  pub page : IsPage a b k b there
+  pub more : count a ≤ k
+  pub same : there ≡ k - count a
+
+pub in_first : (a b : Pages) (k there : ℕ) → Some (First there) ≡ part_at a b k → InFirst a b k there
+in_first a b k there e =
+    let ok : is_ok (pair_answer a b) ≡ true = grind (arith, nat_tests) in
+    let less : k < count a = grind (arith, nat_tests) in
+    let same : there ≡ k = grind (arith, nat_tests) in
+    record {
+      page = record {
+        ok = ok;
+        gone = lt-leb (count (pair_made a b)) k (omega (arith, made-count a b ok)) ∙ sym (lt-leb (count a) there (omega arith));
+        same = made_front a b ok k less ∙ ap (page_at a) (sym same);
+      };
+      less = less;
+      same = same;
+    }
+
+pub in_second : (a b : Pages) (k there : ℕ) → Some (Second there) ≡ part_at a b k → InSecond a b k there
+in_second a b k there e =
+    let ok : is_ok (pair_answer a b) ≡ true = grind (arith, nat_tests) in
+    let more : count a ≤ k = grind (arith, nat_tests) in
+    let same : there ≡ k - count a = grind (arith, nat_tests) in
+    let c = made-count a b ok in
+    record {
+      page = record {
+        ok = ok;
+        gone = ⊎_elim
+            (λ l. lt-leb (count (pair_made a b)) k (omega (arith, c)) ∙ sym (lt-leb (count b) there l))
+            (λ l. le-leb (count (pair_made a b)) k (omega (arith, c)) ∙ sym (le-leb (count b) there l))
+            (cases_lt there (count b));
+        same = made_back a b ok k more ∙ ap (page_at b) (sym same);
+      };
+      more = more;
+      same = same;
+    }
+
+-- as the code has it: the page lies in this part, whose answer is r
+module _ (a b : Pages) (k there n : ℕ) (r : Answer) (e : Some (First there) ≡ part_at a b k) where
+  pub read_first : r ≡ read_answer a there n → r ≡ read_answer (pair_made a b) k n
+  read_first asked =
+      let p = in_first a b k there e in
+      let q = page_at a there in
+      asked
+      ∙ sym (read_about (leb (count a) there) (not (eqb n (length q.bytes))) q.state.readable there there)
+      ∙ ap (λ i. about_page i (read_answer a there n)) p.same ∙ sym (read_is a b k a there p.page n)
+
+  pub write_first : r ≡ write_answer a there n → r ≡ write_answer (pair_made a b) k n
+  write_first asked =
+      let p = in_first a b k there e in
+      let q = page_at a there in
+      asked
+      ∙ sym (write_about (leb (count a) there) (not (eqb n (length q.bytes))) q.state.readable q.state.locked there there)
+      ∙ ap (λ i. about_page i (write_answer a there n)) p.same ∙ sym (write_is a b k a there p.page n)
+
+-- and here the pair's answer r' is r about its own page
+module _ (a b : Pages) (k there n : ℕ) (r r' : Answer) (e : Some (Second there) ≡ part_at a b k) (told : r' ≡ about_page k r) where
+  pub read_second : r ≡ read_answer b there n → r' ≡ read_answer (pair_made a b) k n
+  read_second asked = told ∙ ap (about_page k) asked ∙ sym (read_is a b k b there (in_second a b k there e).page n)
+
+  pub write_second : r ≡ write_answer b there n → r' ≡ write_answer (pair_made a b) k n
+  write_second asked = told ∙ ap (about_page k) asked ∙ sym (write_is a b k b there (in_second a b k there e).page n)
+
+pub out_first : (a b : Pages) (k there : ℕ) (out after : List ℕ) → Some (First there) ≡ part_at a b k → after ≡ read_out a there out → after ≡ read_out (pair_made a b) k out
+out_first a b k there out after e left = left ∙ sym (out_is a b k a there (in_first a b k there e).page out)
+
+pub out_second : (a b : Pages) (k there : ℕ) (out after : List ℕ) → Some (Second there) ≡ part_at a b k → after ≡ read_out b there out → after ≡ read_out (pair_made a b) k out
+out_second a b k there out after e left = left ∙ sym (out_is a b k b there (in_second a b k there e).page out)

@@ -1,5 +1,5 @@
 -- A write to one part is a write to the pair.
-use Rattle.std.proofs.Common.{◌≡◌, ℕ, ◌-◌, ◌<◌, ◌≤◌, Bool, true, false, cond, List, [], ◌∷◌, ◌++◌, length, set, is_ok, sym, refl, ap, ◌∙◌, ⊎_elim, arith}
+use Rattle.std.proofs.Common.{◌≡◌, ℕ, ◌-◌, ◌<◌, ◌≤◌, Bool, true, false, cond, List, [], ◌∷◌, ◌++◌, length, set, is_ok, Some, sym, refl, ap, ◌∙◌, ⊎_elim}
 use Rattle.std.proofs.lemmas.List.{length-set, get_or-set_same, get_or-set_other, set-append_left, set-append_right}
 use Rattle.std.proofs.lemmas.Bool.{cases_eq}
 use Rattle.fault.specs.Faults.{on, unless}
@@ -8,9 +8,10 @@ use Rattle.image.specs.Answers.{Answer, write_answer, written}
 use Rattle.image.specs.Pages.{Page, Pages, absent, count, page_at, length_at, with_page, extent_of}
 use Rattle.image.specs.declared.extent.Extent.{Extent}
 use Rattle.image.proofs.Outcomes.{write_tells}
-use Rattle.pair.specs.Pairs.{pair_answer, pair_made, parts_bad}
+use Rattle.pair.specs.Pairs.{pair_answer, pair_made, part_at, parts_bad}
+use Rattle.pair.specs.declared.pair.Part.TheVariants.{First, Second}
 use Rattle.pair.specs.Sound.{front_at, back_at}
-use Rattle.pair.proofs.Joins.{made_is, recounted_ok, write_front, write_back}
+use Rattle.pair.proofs.Joins.{in_first, in_second, made_is, write_ok}
 
 -- the pages after a write are as many and as long as before
 module _ (a : Pages) (k : ℕ) (bytes : List ℕ) (h : k < count a) (e : length bytes ≡ length_at a k) where
@@ -49,24 +50,32 @@ module _ (a b : Pages) (ok : is_ok (pair_answer a b) ≡ true) (k : ℕ) (bytes 
       ∙ ap (λ (p : Page). record { size = a.size; pages = set (a.pages ++ b.pages) k (record { bytes = bytes; state = p.state }) }) (sym (back_at a b k h))
       ∙ ap (λ m. with_page m k bytes) (sym (made_is a b ok))
 
-  front_by : (good : Bool) → is_ok (write_answer a k (length bytes)) ≡ good → pair_made (cond good (with_page a k bytes) a) b ≡ cond good (with_page (pair_made a b) k bytes) (pair_made a b)
-  front_by true e = let t = write_tells a k (length bytes) e in with_front t.0 t.1
-  front_by false e = refl
-
-  pub written_front : k < count a → pair_made (written a k bytes) b ≡ written (pair_made a b) k bytes
-  written_front h = front_by (is_ok (write_answer a k (length bytes))) refl
-      ∙ ap (λ r. cond (is_ok r) (with_page (pair_made a b) k bytes) (pair_made a b)) (sym (write_front a b ok k (length bytes) h))
+  front_by : (good : Bool) → k < count a → is_ok (write_answer a k (length bytes)) ≡ good → pair_made (cond good (with_page a k bytes) a) b ≡ cond good (with_page (pair_made a b) k bytes) (pair_made a b)
+  front_by true h e = with_front h (write_tells a k (length bytes) e).1
+  front_by false h e = refl
 
   back_by : (good : Bool) → count a ≤ k → is_ok (write_answer b (k - count a) (length bytes)) ≡ good
       → pair_made a (cond good (with_page b (k - count a) bytes) b) ≡ cond good (with_page (pair_made a b) k bytes) (pair_made a b)
   back_by true h e = let t = write_tells b (k - count a) (length bytes) e in with_back h t.0 t.1
   back_by false h e = refl
 
-  written_back : count a ≤ k → pair_made a (written b (k - count a) bytes) ≡ written (pair_made a b) k bytes
-  written_back h = back_by (is_ok (write_answer b (k - count a) (length bytes))) h refl
-      ∙ ap (λ t. cond t (with_page (pair_made a b) k bytes) (pair_made a b)) (sym (recounted_ok (count a) (write_answer b (k - count a) (length bytes))))
-      ∙ ap (λ r. cond (is_ok r) (with_page (pair_made a b) k bytes) (pair_made a b)) (sym (write_back a b ok k (length bytes) h))
+-- as the code has it: the page lies in this part, and the part is written
+module _ (a b : Pages) (k there : ℕ) (bytes : List ℕ) (after : Pages) where
+  abbrev written_as : Bool → Pages
+  written_as good = cond good (with_page (pair_made a b) k bytes) (pair_made a b)
 
-  -- as the code has it: `front` is what the first part's count was asked as
-  pub second_after : (front : ℕ) → front ≡ count a → front ≤ k → (b' : Pages) → b' ≡ written b (k - front) bytes → pair_made a b' ≡ written (pair_made a b) k bytes
-  second_after front f h b' e = ap (pair_made a) e ∙ ap (λ x. pair_made a (written b (k - x) bytes)) f ∙ written_back (omega arith)
+  pub written_first : Some (First there) ≡ part_at a b k → after ≡ written a there bytes → pair_made after b ≡ written (pair_made a b) k bytes
+  written_first e done =
+      let p = in_first a b k there e in
+      ap (λ m. pair_made m b) (done ∙ ap (λ i. written a i bytes) p.same)
+      ∙ front_by a b p.page.ok k bytes (is_ok (write_answer a k (length bytes))) p.less refl
+      ∙ ap (λ i. written_as (is_ok (write_answer a i (length bytes)))) (sym p.same)
+      ∙ ap written_as (sym (write_ok a b k a there p.page (length bytes)))
+
+  pub written_second : Some (Second there) ≡ part_at a b k → after ≡ written b there bytes → pair_made a after ≡ written (pair_made a b) k bytes
+  written_second e done =
+      let p = in_second a b k there e in
+      ap (pair_made a) (done ∙ ap (λ i. written b i bytes) p.same)
+      ∙ back_by a b p.page.ok k bytes (is_ok (write_answer b (k - count a) (length bytes))) p.more refl
+      ∙ ap (λ i. written_as (is_ok (write_answer b i (length bytes)))) (sym p.same)
+      ∙ ap written_as (sym (write_ok a b k b there p.page (length bytes)))

@@ -1,10 +1,12 @@
 -- Two images, the second's pages after the first's.
-use Rattle.std.specs.Prelude.{ℕ, ◌+◌, Bool, cond, not, ◌||◌, [], ◌∷◌, ◌++◌, is_ok, Ok, Err, ◌==◌, nat_lt}
+use Rattle.std.specs.Prelude.{ℕ, ◌+◌, ◌-◌, Bool, cond, if◌then◌else◌, not, ◌||◌, [], ◌∷◌, ◌++◌, is_ok, Option, Some, None, ◌==◌, nat_lt}
 use Rattle.fault.specs.Faults.{on, unless}
 use Rattle.fault.specs.declared.refusal.Refusal.TheVariants.{PairParts}
 use Rattle.image.specs.Answers.{Answer}
-use Rattle.image.specs.Pages.{Pages, extent_of, no_pages}
+use Rattle.image.specs.Pages.{Pages, count, extent_of, no_pages}
 use Rattle.image.specs.declared.extent.Extent.{Extent}
+use Rattle.pair.specs.declared.pair.Part.{Part}
+use Rattle.pair.specs.declared.pair.Part.TheVariants.{First, Second}
 
 abbrev pub joined : Pages → Pages → Pages
 joined a b = record { size = a.size; pages = a.pages ++ b.pages }
@@ -24,7 +26,11 @@ pair_answer a b = unless (on (parts_bad (extent_of a) (extent_of b)) PairParts 0
 abbrev pub pair_made : Pages → Pages → Pages
 pair_made a b = cond (is_ok (pair_answer a b)) (joined a b) no_pages
 
--- An answer whose page is counted from `by` pages earlier on.
-abbrev pub recounted : ℕ → Answer → Answer
-recounted by (Ok u) = Ok u
-recounted by (Err f) = Err (record { number = f.number; «module» = f.«module»; place = f.place + by })
+-- How large the image of two is, where they can be joined.
+abbrev pub joined_extent : Extent → Extent → Option Extent
+joined_extent a b = if parts_bad a b then None else Some (record { size = a.size; count = a.count + b.count; last = b.last })
+
+-- The part that has page k, where the two are joined, and the page's number there.
+abbrev pub part_at : Pages → Pages → ℕ → Option Part
+part_at a b k =
+    if is_ok (pair_answer a b) then Some (if nat_lt k (count a) then First k else Second (k - count a)) else None

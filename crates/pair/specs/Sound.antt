@@ -5,7 +5,7 @@ use Rattle.std.proofs.lemmas.List.{length-append, get_or_append_left, get_or-app
 use Rattle.std.proofs.lemmas.Bool.{cases_lt, or_parts, not-false, eqb-true, eqb-false, ltb-false}
 use Rattle.fault.specs.declared.refusal.Refusal.TheVariants.{PairParts}
 use Rattle.image.specs.Pages.{Page, Pages, WellFormed, absent, count, page_at, length_at, extent_of}
-use Rattle.image.specs.Sound.{made_sound, row_passed}
+use Rattle.image.proofs.Sound.{made_sound, row_passed}
 use Rattle.image.specs.declared.extent.Extent.{Extent}
 use Rattle.pair.specs.Pairs.{joined, parts_bad, pair_answer, pair_made}
 

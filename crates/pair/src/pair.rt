@@ -1,10 +1,10 @@
 // A pair: the pages of one image, and then those of another.
-ghost use Rattle.std.specs.Prelude.{◌≡◌, ◌+◌, ◌^◌, ◌<◌, true, ◌++◌, is_ok, IfErr};
-ghost use Rattle.pair.specs.Pairs.{pair_answer, pair_made, parts_bad, recounted};
+ghost use Rattle.std.specs.Prelude.{◌≡◌, ◌++◌};
+ghost use Rattle.pair.specs.Pairs.{joined_extent, pair_answer, pair_made, part_at};
 ghost use Rattle.pair.specs.Sound.{pair_sound};
 
 use fault::{Fault, Refusal};
-use image::{EditableImage, Extent, Image};
+use image::{EditableImage, Extent, Image, PageState};
 
 // Where the two cannot be joined, it is an image of no pages.
 #[derive(Drop)]
@@ -13,31 +13,40 @@ pub struct Pair<A, B> {
     second: B,
 }
 
-// Whether images of these extents cannot be joined.
-fn is_bad(a: Extent, b: Extent) -> bool
-    ensures { result ≡ parts_bad a b }
-{
-    if a.count == 0 || b.count == 0 {
-        return true;
-    }
-    if a.size != b.size || a.last != a.size {
-        return true;
-    }
-    a.count > 4096 || b.count > 4096 - a.count
+// The part of a pair that has a page, and the page's number there.
+#[derive(Clone, Copy)]
+enum Part {
+    First(usize),
+    Second(usize),
 }
 
-// The same answer, its page counted from `by` pages earlier on.
-fn recount(answer: Result<(), Fault>, by: usize) -> Result<(), Fault>
-    requires { IfErr answer (λ f. f.place + by < 2 ^ 64) }
-    ensures { result ≡ recounted by answer }
+// How large two images of these extents are as one, where they can be joined.
+fn joined(a: Extent, b: Extent) -> Option<Extent>
+    ensures { result ≡ joined_extent a b }
 {
-    match answer {
-        Ok(()) => Ok(()),
-        Err(fault) => Err(Fault {
-            number: fault.number,
-            module: fault.module,
-            place: fault.place + by,
-        }),
+    if a.count == 0 || b.count == 0 {
+        return None;
+    }
+    if a.size != b.size || a.last != a.size {
+        return None;
+    }
+    if a.count > 4096 || b.count > 4096 - a.count {
+        return None;
+    }
+    Some(Extent {
+        size: a.size,
+        count: a.count + b.count,
+        last: b.last,
+    })
+}
+
+// The same fault, about this page.
+fn about(fault: Fault, page: usize) -> Fault
+    ensures { result ≡ record fault { place = page } }
+{
+    Fault {
+        place: page,
+        ..fault
     }
 }
 
@@ -46,9 +55,7 @@ impl<A: Image, B: Image> Pair<A, B> {
     pub fn check(first: &A, second: &B) -> Result<(), Fault>
         ensures { result ≡ pair_answer (A.Image.meaning first.now) (B.Image.meaning second.now) }
     {
-        if is_bad(first.extent(), second.extent()) {
-            return Err(Fault::new(Refusal::PairParts, 0));
-        }
+        joined(first.extent(), second.extent()).ok_or(Fault::new(Refusal::PairParts, 0))?;
         Ok(())
     }
 
@@ -59,11 +66,17 @@ impl<A: Image, B: Image> Pair<A, B> {
         Pair { first, second }
     }
 
-    // Whether the two are joined.
-    fn is_joined(&self) -> bool
-        ensures { result ≡ is_ok (pair_answer (A.Image.meaning self.now.first) (B.Image.meaning self.now.second)) }
+    // Where a page lies, if the two are joined; pages past the end are the second's.
+    fn part(&self, page: usize) -> Option<Part>
+        ensures { result ≡ part_at (A.Image.meaning self.now.first) (B.Image.meaning self.now.second) page }
     {
-        Pair::check(&self.first, &self.second).is_ok()
+        let front = self.first.extent();
+        joined(front, self.second.extent())?;
+        if page < front.count {
+            Some(Part::First(page))
+        } else {
+            Some(Part::Second(page - front.count))
+        }
     }
 }
 
@@ -75,63 +88,38 @@ impl<A: Image, B: Image> Image for Pair<A, B> {
     ghost sound = { λ p. pair_sound (A.Image.meaning p.first) (B.Image.meaning p.second) (A.Image.sound p.first) (B.Image.sound p.second) };
 
     fn extent(&self) -> Extent {
-        let a = self.first.extent();
-        let b = self.second.extent();
-        if is_bad(a, b) {
-            return Extent::none();
-        }
-        Extent {
-            size: a.size,
-            count: a.count + b.count,
-            last: b.last,
-        }
+        joined(self.first.extent(), self.second.extent()).unwrap_or(Extent::none())
     }
 
-    fn is_readable(&self, page: usize) -> bool {
-        if !self.is_joined() {
-            return false;
+    fn state(&self, page: usize) -> PageState {
+        match self.part(page) {
+            None => PageState::UNREADABLE,
+            Some(Part::First(there)) => self.first.state(there),
+            Some(Part::Second(there)) => self.second.state(there),
         }
-        let front = self.first.page_count();
-        if page < front {
-            return self.first.is_readable(page);
-        }
-        self.second.is_readable(page - front)
-    }
-
-    fn is_locked(&self, page: usize) -> bool {
-        if !self.is_joined() {
-            return false;
-        }
-        let front = self.first.page_count();
-        if page < front {
-            return self.first.is_locked(page);
-        }
-        self.second.is_locked(page - front)
     }
 
     fn read(&self, page: usize, out: &mut [u8]) -> Result<(), Fault> {
-        if !self.is_joined() {
-            return Err(Fault::new(Refusal::PageAbsent, page));
+        match self.part(page) {
+            None => Err(Fault::new(Refusal::PageAbsent, page)),
+            Some(Part::First(there)) => self.first.read(there, out),
+            Some(Part::Second(there)) => {
+                let answer = self.second.read(there, out);
+                answer.map_err(|fault| about(fault, page))
+            }
         }
-        let front = self.first.page_count();
-        if page < front {
-            return self.first.read(page, out);
-        }
-        let answer = self.second.read(page - front, out);
-        recount(answer, front)
     }
 }
 
 impl<A: EditableImage, B: EditableImage> EditableImage for Pair<A, B> {
     fn write(&mut self, page: usize, bytes: &[u8]) -> Result<(), Fault> {
-        if !self.is_joined() {
-            return Err(Fault::new(Refusal::PageAbsent, page));
+        match self.part(page) {
+            None => Err(Fault::new(Refusal::PageAbsent, page)),
+            Some(Part::First(there)) => self.first.write(there, bytes),
+            Some(Part::Second(there)) => {
+                let answer = self.second.write(there, bytes);
+                answer.map_err(|fault| about(fault, page))
+            }
         }
-        let front = self.first.page_count();
-        if page < front {
-            return self.first.write(page, bytes);
-        }
-        let answer = self.second.write(page - front, bytes);
-        recount(answer, front)
     }
 }

@@ -1,6 +1,6 @@
 -- A seal as its callers see it.
 use Rattle.std.specs.Prelude.{ℕ, Bool, false, List, [], take, Some, None, Option, ◌==◌, slice_index_or}
-use Rattle.image.specs.Pages.{State as PageState}
+use Rattle.image.specs.declared.state.PageState.{PageState}
 use Rattle.nodehash.specs.Hashing.{Hashing, digest_length}
 use Rattle.tree.specs.declared.shape.Shape.{Shape}
 use Rattle.tree.specs.Marks.{held_at}

@@ -1,62 +1,28 @@
-use Rattle.std.proofs.Common.{◌≡◌, true, length, is_ok, sym, refl, ap, ◌∙◌, rules}
-use Rattle.std.proofs.lemmas.Bool.{true≢false}
-use Rattle.image.specs.Answers.{write_answer}
-use Rattle.image.proofs.Outcomes.{ok_is, write_done, write_tells}
-use Rattle.bench.specs.Benches.{bench_answer, bench_made, bench_state}
-use Rattle.bench.specs.Sound.{bench_sound}
-use Rattle.bench.proofs.Spans.{span}
-use Rattle.bench.proofs.Writes.{bench_written}
+use Rattle.std.proofs.Common.{refl, ◌∙◌, rules}
+use Rattle.bench.specs.Benches.{bench_held, bench_state}
+use Rattle.bench.proofs.Cuts.{alike_extent, alike_sound}
+use Rattle.bench.proofs.Places.{write_place}
+use Rattle.bench.proofs.Writes.{after-length, after_written}
 use Rattle.bench.proofs.bench.BenchImageEditableImage.write.Goals as goal
-
-pub overflow_mul-at : goal.overflow_mul-at
-overflow_mul-at c =
-    let b = c.args.self.now in
-    let buffer = b.buffer.now in
-    let page = c.args.page in
-    let bytes = c.args.bytes.now in
-    let m = bench_made b.size b.locked buffer in
-    let good : is_ok (write_answer m page (length bytes)) ≡ true = sym (ap is_ok c.check_write-answer.ensures) ∙ c.if-is_err.ensures.negation in
-    let t = write_tells m page (length bytes) good in
-    let s = span (is_ok (bench_answer b.size b.locked (length buffer))) b.size (bench_state b.locked) buffer (bench_sound b.size b.locked buffer) page (length bytes) t.0 t.1 in
-    search rules
-
-pub overflow_add-end : goal.overflow_add-end
-overflow_add-end c =
-    let b = c.args.self.now in
-    let buffer = b.buffer.now in
-    let page = c.args.page in
-    let bytes = c.args.bytes.now in
-    let m = bench_made b.size b.locked buffer in
-    let good : is_ok (write_answer m page (length bytes)) ≡ true = sym (ap is_ok c.check_write-answer.ensures) ∙ c.if-is_err.ensures.negation in
-    let t = write_tells m page (length bytes) good in
-    let s = span (is_ok (bench_answer b.size b.locked (length buffer))) b.size (bench_state b.locked) buffer (bench_sound b.size b.locked buffer) page (length bytes) t.0 t.1 in
-    search rules
 
 pub slice_bounds-copy_from_slice-end : goal.slice_bounds-copy_from_slice-end
 slice_bounds-copy_from_slice-end c =
     let b = c.args.self.now in
-    let buffer = b.buffer.now in
-    let page = c.args.page in
-    let bytes = c.args.bytes.now in
-    let m = bench_made b.size b.locked buffer in
-    let good : is_ok (write_answer m page (length bytes)) ≡ true = sym (ap is_ok c.check_write-answer.ensures) ∙ c.if-is_err.ensures.negation in
-    let t = write_tells m page (length bytes) good in
-    let s = span (is_ok (bench_answer b.size b.locked (length buffer))) b.size (bench_state b.locked) buffer (bench_sound b.size b.locked buffer) page (length bytes) t.0 t.1 in
+    let p = write_place (bench_held b.extent b.locked b.buffer.now) b.extent.size b.extent.count (bench_state b.locked) b.buffer.now refl b.sound c.args.page _ c.in_ok-check_write.ensures in
     search rules
 
-pub returns : goal.returns
-returns c =
+pub invariant_of-self : goal.invariant_of-self
+invariant_of-self c =
     let b = c.args.self.now in
-    let buffer = b.buffer.now in
-    let page = c.args.page in
-    let bytes = c.args.bytes.now in
-    let m = bench_made b.size b.locked buffer in
-    let good : is_ok (write_answer m page (length bytes)) ≡ true = sym (ap is_ok c.check_write-answer.ensures) ∙ c.if-is_err.ensures.negation in
-    let t = write_tells m page (length bytes) good in
-    let s = span (is_ok (bench_answer b.size b.locked (length buffer))) b.size (bench_state b.locked) buffer (bench_sound b.size b.locked buffer) page (length bytes) t.0 t.1 in
+    let p = write_place (bench_held b.extent b.locked b.buffer.now) b.extent.size b.extent.count (bench_state b.locked) b.buffer.now refl b.sound c.args.page _ c.in_ok-check_write.ensures in
+    let e = after-length b.extent.size b.extent.count b.buffer.now c.args.page c.args.bytes.now _ p c.copy_from_slice.ensures.after in
     record {
-      answer = sym (ok_is _ c.if-is_err.ensures.negation) ∙ c.check_write-answer.ensures;
-      after = bench_written b.size b.locked buffer page bytes _ t.0 s c.copy_from_slice.ensures.after ∙ sym (write_done m page bytes good);
-      frame = refl;
-      kept = λ x. absurd (true≢false x);
+      large = b.large ∙ alike_extent b.extent.size b.extent.count (bench_state b.locked) b.buffer.now _ e;
+      sound = alike_sound b.extent.size b.extent.count (bench_state b.locked) b.buffer.now _ e b.sound;
     }
+
+pub returns-clause-after : goal.returns-clause-after
+returns-clause-after c =
+    let b = c.args.self.now in
+    let p = write_place (bench_held b.extent b.locked b.buffer.now) b.extent.size b.extent.count (bench_state b.locked) b.buffer.now refl b.sound c.args.page _ c.in_ok-check_write.ensures in
+    after_written b.extent.size b.extent.count b.buffer.now c.args.page c.args.bytes.now _ p c.copy_from_slice.ensures.after (bench_state b.locked) c.in_ok-check_write.ensures

@@ -1,57 +1,21 @@
-use Rattle.std.proofs.Common.{length, is_ok, sym, ap, ◌∙◌, rules}
-use Rattle.image.proofs.Outcomes.{ok_is, read_done, read_refused}
-use Rattle.bench.specs.Benches.{bench_answer, bench_made, bench_state}
-use Rattle.bench.specs.Sound.{bench_sound}
-use Rattle.bench.proofs.Spans.{read_answer_lem, read_span}
+use Rattle.std.proofs.Common.{length, sym, refl, ap, ◌∙◌}
+use Rattle.bench.specs.Benches.{bench_held, bench_state}
+use Rattle.bench.proofs.Places.{reading}
 use Rattle.bench.proofs.bench.BenchImageImage.read.Goals as goal
 
-pub returns-then-is_err : goal.returns-then-is_err
-returns-then-is_err c =
+pub page_in-requires : goal.page_in-requires
+page_in-requires c =
     let b = c.args.self.now in
-    let buffer = b.buffer.now in
-    let page = c.args.page in
-    let out = c.args.out.now in
-    let m = bench_made b.size b.locked buffer in
-    let same = read_answer_lem (is_ok (bench_answer b.size b.locked (length buffer))) b.size (bench_state b.locked) buffer (bench_sound b.size b.locked buffer) c.extent.result page (length out) _ c.check_read-answer.result c.extent.ensures c.is_readable.ensures c.check_read-answer.ensures in
-    record { answer = same; out = sym (read_refused m page out (sym (ap is_ok same) ∙ c.if-is_err.ensures.negation)) }
+    (reading (bench_held b.extent b.locked b.buffer.now) b.extent.size b.extent.count (bench_state b.locked) b.buffer.now refl b.sound c.args.page c.args.out.now c.in_ok-check_read.ensures).starts
 
-pub overflow_mul-start : goal.overflow_mul-start
-overflow_mul-start c =
+pub copy_from_slice-requires : goal.copy_from_slice-requires
+copy_from_slice-requires c =
     let b = c.args.self.now in
-    let buffer = b.buffer.now in
-    let page = c.args.page in
-    let out = c.args.out.now in
-    let s = read_span (is_ok (bench_answer b.size b.locked (length buffer))) b.size (bench_state b.locked) buffer (bench_sound b.size b.locked buffer) c.extent.result page (length out) _ c.check_read-answer.result c.extent.ensures c.is_readable.ensures c.check_read-answer.ensures c.if-is_err.ensures.negation in
-    search rules
+    (reading (bench_held b.extent b.locked b.buffer.now) b.extent.size b.extent.count (bench_state b.locked) b.buffer.now refl b.sound c.args.page c.args.out.now c.in_ok-check_read.ensures).fits
+    ∙ sym (ap length c.page_in.ensures)
 
-pub overflow_add-start : goal.overflow_add-start
-overflow_add-start c =
+pub returns-clause-out : goal.returns-clause-out
+returns-clause-out c =
     let b = c.args.self.now in
-    let buffer = b.buffer.now in
-    let page = c.args.page in
-    let out = c.args.out.now in
-    let s = read_span (is_ok (bench_answer b.size b.locked (length buffer))) b.size (bench_state b.locked) buffer (bench_sound b.size b.locked buffer) c.extent.result page (length out) _ c.check_read-answer.result c.extent.ensures c.is_readable.ensures c.check_read-answer.ensures c.if-is_err.ensures.negation in
-    search rules
-
-pub slice_bounds-copy_from_slice-end : goal.slice_bounds-copy_from_slice-end
-slice_bounds-copy_from_slice-end c =
-    let b = c.args.self.now in
-    let buffer = b.buffer.now in
-    let page = c.args.page in
-    let out = c.args.out.now in
-    let s = read_span (is_ok (bench_answer b.size b.locked (length buffer))) b.size (bench_state b.locked) buffer (bench_sound b.size b.locked buffer) c.extent.result page (length out) _ c.check_read-answer.result c.extent.ensures c.is_readable.ensures c.check_read-answer.ensures c.if-is_err.ensures.negation in
-    search rules
-
-pub returns : goal.returns
-returns c =
-    let b = c.args.self.now in
-    let buffer = b.buffer.now in
-    let page = c.args.page in
-    let out = c.args.out.now in
-    let s = read_span (is_ok (bench_answer b.size b.locked (length buffer))) b.size (bench_state b.locked) buffer (bench_sound b.size b.locked buffer) c.extent.result page (length out) _ c.check_read-answer.result c.extent.ensures c.is_readable.ensures c.check_read-answer.ensures c.if-is_err.ensures.negation in
-    let m = bench_made b.size b.locked buffer in
-    let same = read_answer_lem (is_ok (bench_answer b.size b.locked (length buffer))) b.size (bench_state b.locked) buffer (bench_sound b.size b.locked buffer) c.extent.result page (length out) _ c.check_read-answer.result c.extent.ensures c.is_readable.ensures c.check_read-answer.ensures in
-    record {
-      answer = sym (ok_is _ c.if-is_err.ensures.negation) ∙ same;
-      out = c.copy_from_slice.ensures.after ∙ s.same ∙ sym (read_done m page out (sym (ap is_ok same) ∙ c.if-is_err.ensures.negation));
-    }
+    c.copy_from_slice.ensures.after ∙ c.page_in.ensures
+    ∙ (reading (bench_held b.extent b.locked b.buffer.now) b.extent.size b.extent.count (bench_state b.locked) b.buffer.now refl b.sound c.args.page c.args.out.now c.in_ok-check_read.ensures).same

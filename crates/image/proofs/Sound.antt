@@ -1,4 +1,4 @@
--- Lemmas for the proofs of well-formedness. The code cites those proofs in `ghost sound`, so they stand with the definitions.
+-- Images that are made or refused, and rows that pass.
 use Rattle.std.specs.Prelude.{◌≡◌, ℕ, Bool, true, false, cond, List, ◌∷◌, is_ok, refl}
 use Rattle.std.proofs.Common.{arith}
 use Rattle.std.proofs.lemmas.Bool.{false≢true}
