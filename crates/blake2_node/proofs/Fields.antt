@@ -9,33 +9,6 @@ use Rattle.label.specs.Labels.{Parts}
 use Rattle.nodehash.specs.declared.position.Position.{Position}
 use Rattle.blake2_node.specs.Parameters.{fields, offset_length, zeros_length}
 
--- a field that is put behind the first bytes of a block takes the place of zeros
-module _ (at : ℕ) (block front field last : List ℕ) (seen : take at block ≡ front) (room : length front + length field ≤ 64) (long : length block ≡ 64)
-    (held : (at ≤ 64) × (block ≡ pad 64 (take at block))) (copy : last ≡ field) where
-  abbrev put : List ℕ
-  put = put_mid at (at + length field - at) block last
-
-  front_length : length front ≡ at
-  front_length = ap length (sym seen) ∙ length-take-le at block (omega arith)
-
-  put_is : put ≡ pad 64 (front ++ field)
-  unfolding pad
-  put_is =
-      let rest : List ℕ = replicate (64 - length front) 0 in
-      let zeros : block ≡ front ++ rest = held.1 ∙ ap (pad 64) seen in
-      let size : at + length field - at ≡ length field = omega arith in
-      let behind : drop (at + length field - at) (drop at block) ≡ replicate (64 - length (front ++ field)) 0 =
-      (λ i. drop (size i) (drop at (zeros i))) ∙ ap (drop (length field)) (drop_at front rest at front_length) ∙ drop-replicate (length field) (64 - length front) 0
-      ∙ ap (λ n. replicate n 0) (omega (arith, length-append front field)) in
-      (λ i. seen i ++ (copy i ++ behind i)) ∙ sym (append_assoc front field (replicate (64 - length (front ++ field)) 0))
-
-  pub put_seen : take (at + length field) put ≡ front ++ field
-  unfolding pad
-  put_seen = ap (take (at + length field)) put_is ∙ take_at (front ++ field) _ _ (length-append front field ∙ omega (arith, front_length))
-
-  pub put_held : (at + length field ≤ 64) × (put ≡ pad 64 (take (at + length field) put))
-  put_held = (omega (arith, front_length), put_is ∙ ap (pad 64) (sym put_seen))
-
 -- the first bytes of an offset, as many as it has
 pub offset_bytes : (v : Variant) (n x : ℕ) (bytes : List ℕ) → n ≡ offset_length v → bytes ≡ le_bytes 8 x → take n bytes ≡ le_bytes (offset_length v) x
 offset_bytes B n x bytes e b = rw (e, b)

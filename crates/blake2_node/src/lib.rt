@@ -1,7 +1,6 @@
 // BLAKE2b and BLAKE2s as node hashes.
 #![tactic(auto)]
 
-mod block;
 mod examples;
 pub mod node;
 mod parameters;

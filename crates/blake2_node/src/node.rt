@@ -1,12 +1,11 @@
 // A node hash by BLAKE2: a label and a key, and the digests of nodes under them.
 ghost use Rattle.std.specs.Prelude.{◌≡◌};
-ghost use Rattle.blake2.specs.Width.{width_of};
 ghost use Rattle.byte_strings.specs.Strings.{within};
 ghost use Rattle.blake2_node.specs.Meaning.{hashing};
 ghost use Rattle.blake2_node.specs.Nodes.{key_at, key_bytes};
 
 use crate::parameters::parameter_block;
-use blake2::{Variant, Word};
+use blake2::Word;
 use byte_strings::Bytes;
 use fault::{Fault, Refusal};
 use label::Label;
@@ -27,16 +26,6 @@ pub struct Blake2Node<W> {
 pub type Blake2bNode = Blake2Node<u64>;
 
 pub type Blake2sNode = Blake2Node<u32>;
-
-// The bytes of a word.
-fn word_size(variant: Variant) -> usize
-    ensures { result ≡ (width_of variant).size }
-{
-    match variant {
-        Variant::B => 8,
-        Variant::S => 4,
-    }
-}
 
 impl<W: Word> Blake2Node<W> {
     // The node hash with this label and this key. Where the label is of the other variant, or the key has not the length that it says, it is unfit: its digests are zeros, and take no blocks.
@@ -69,7 +58,7 @@ impl<W: Word> NodeHash for Blake2Node<W> {
     }
 
     fn is_fit(&self) -> bool {
-        W::size() == word_size(self.label.variant)
+        W::size() == self.label.variant.word_size()
             && self
                 .key
                 .as_ref()

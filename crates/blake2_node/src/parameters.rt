@@ -4,8 +4,8 @@ ghost use Rattle.blake2.specs.Bytes.{pad};
 ghost use Rattle.label.specs.Meaning.{parts};
 ghost use Rattle.blake2_node.specs.Parameters.{offset_length, zeros_length, parameter_block};
 
-use crate::block::Block;
 use blake2::Variant;
+use byte_strings::Bytes;
 use label::Label;
 use nodehash::Position;
 
@@ -20,19 +20,27 @@ fn lengths(variant: Variant) -> (usize, usize)
     }
 }
 
+// Puts a field behind those that are there.
+fn put(block: &mut Bytes<64>, field: &[u8])
+    requires { length block.old + length field.now ≤ 64 }
+    ensures { block.new ≡ block.old ++ field.now }
+{
+    let _ = block.append(field);
+}
+
 // The parameter block of a node under a label.
 pub(crate) fn parameter_block(label: &Label, position: Position) -> [u8; 64]
     ensures { result ≡ parameter_block (parts label.now) position }
 {
     let (offset_length, zeros_length) = lengths(label.variant);
     let offset = u64::from(position.offset).to_le_bytes();
-    let mut block = Block::new();
-    block.put(&[label.digest, label.key, label.fanout, label.depth]);
-    block.put(&u32::from(label.page).to_le_bytes());
-    block.put(&offset[..offset_length]);
-    block.put(&[position.depth, label.digest]);
-    block.put(&[0u8; 14][..zeros_length]);
-    block.put(label.salt.as_slice());
-    block.put(label.layout.as_slice());
-    block.into_bytes()
+    let mut block = Bytes::new();
+    put(&mut block, &[label.digest, label.key, label.fanout, label.depth]);
+    put(&mut block, &u32::from(label.page).to_le_bytes());
+    put(&mut block, &offset[..offset_length]);
+    put(&mut block, &[position.depth, label.digest]);
+    put(&mut block, &[0u8; 14][..zeros_length]);
+    put(&mut block, label.salt.as_slice());
+    put(&mut block, label.layout.as_slice());
+    block.padded()
 }

@@ -3,6 +3,7 @@ use Rattle.std.specs.Prelude.{◌≡◌, ℕ, ◌-◌, ◌≤◌, List, ◌++◌
 use Rattle.std.proofs.Common.{sym, ap, ◌∙◌, arith, take-append-drop}
 use Rattle.std.proofs.lemmas.List.{length-take-le}
 use Rattle.byte_strings.specs.declared.bytes.Bytes.TheInside.{Inside}
+use Rattle.byte_strings.specs.Strings.{zero_filled}
 
 -- n bytes, of which the first len are the string, and the others are zero
 abbrev pub IsPadded : {N : ℕ} → Inside N → Type 0
@@ -10,7 +11,7 @@ IsPadded {N} b = (length b.all ≡ N) × (b.len ≤ N) × (drop b.len b.all ≡ 
 
 -- the string, and zeros behind it
 abbrev pub padded : {N : ℕ} → List ℕ → Inside N
-padded {N} bs = record { all = bs ++ replicate (N - length bs) 0; len = length bs }
+padded {N} bs = record { all = zero_filled N bs; len = length bs }
 
 -- they are the bytes that the string was taken from
 pub padded_is : {N : ℕ} (b : Inside N) → IsPadded b → padded (take b.len b.all) ≡ b

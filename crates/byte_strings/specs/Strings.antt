@@ -1,5 +1,5 @@
 -- Byte strings of at most n bytes.
-use Rattle.std.specs.Prelude.{ℕ, ◌<◌, cond, List, ◌++◌, length, Some, None, Ok, Err, Option, Result, nat_le, slice_index}
+use Rattle.std.specs.Prelude.{ℕ, ◌-◌, ◌<◌, cond, List, ◌++◌, length, replicate, Some, None, Ok, Err, Option, Result, nat_le, slice_index}
 use Rattle.byte_strings.specs.declared.error.TooLong.{TooLong}
 
 -- each element is a byte
@@ -24,3 +24,7 @@ append_answer n bs more = cond (nat_le (length (bs ++ more)) n) (Ok tt) (Err too
 -- what an append leaves: all of the bytes more, or where these are more than n together, none of them
 abbrev pub appended : ℕ → List ℕ → List ℕ → List ℕ
 appended n bs more = cond (nat_le (length (bs ++ more)) n) (bs ++ more) bs
+
+-- n bytes: those of a string, and zeros behind them
+abbrev pub zero_filled : ℕ → List ℕ → List ℕ
+zero_filled n bs = bs ++ replicate (n - length bs) 0

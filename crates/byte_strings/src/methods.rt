@@ -1,6 +1,6 @@
 // Making, reading and extending a byte string.
 ghost use Rattle.std.specs.Prelude.{◌≡◌, ℕ, ◌<◌, ◌≤◌, List, Decides, [], ◌∷◌, ◌++◌, length};
-ghost use Rattle.byte_strings.specs.Strings.{copied, append_answer, appended};
+ghost use Rattle.byte_strings.specs.Strings.{copied, append_answer, appended, zero_filled};
 
 use crate::{Bytes, TooLong};
 
@@ -27,6 +27,14 @@ impl<const N: usize> Bytes<N> {
         ensures fits { length self.now ≤ N }
     {
         &self.all[..self.len]
+    }
+
+    // All N bytes: those of the string, and zeros behind them.
+    pub fn padded(&self) -> [u8; N]
+        ensures { result ≡ zero_filled N self.now }
+    {
+        let Bytes { all, len: _ } = *self;
+        all
     }
 
     // Adds the bytes at the end, or where they do not fit, none of them.
