@@ -11,7 +11,7 @@ use Rattle.nodehash.specs.Hashing.{Hashing, digest_length, fanout_of}
 use Rattle.nodehash.specs.declared.position.Position.{Position}
 use Rattle.stream.specs.Hash.{blocks}
 use Rattle.tree.specs.Below.{joined_from}
-use Rattle.tree.specs.Shapes.{Node, group_size, layer_size, over_nodes}
+use Rattle.tree.specs.Shapes.{IsNode, group_size, layer_size, over_nodes}
 use Rattle.tree.specs.Trees.{input, shape_of, tree, tree_blocks}
 use Rattle.tree.specs.declared.shape.Shape.{Shape}
 use Rattle.tree.proofs.Below.{total_same}
@@ -26,7 +26,7 @@ joined_length d size c (suc g) e =
     length-append (joined_from d c g) (d (c + g)) ∙ omega (arith, joined_length d size c g e, e (c + g), suc-mul g size)
 
 -- sums over nodes of what is the same for each
-nodes_same : (s : Shape) (w w' : ℕ → ℕ → ℕ) → ((k j : ℕ) → Node s k j → w k j ≡ w' k j) → over_nodes s w ≡ over_nodes s w'
+nodes_same : (s : Shape) (w w' : ℕ → ℕ → ℕ) → ((k j : ℕ) → IsNode s k j → w k j ≡ w' k j) → over_nodes s w ≡ over_nodes s w'
 unfolding over_nodes
 nodes_same s w w' e = total_same _ _ _ (λ k l. total_same _ _ _ (λ j r. e k j (record { low = l; left = r })))
 

@@ -20,7 +20,7 @@ use Rattle.tree.specs.Laws.{digest_after, held_from}
 use Rattle.tree.specs.Marks.{marked_at, held_at, mark_path}
 use Rattle.tree.specs.Records.{stored, fresh}
 use Rattle.tree.specs.Runs.{Making, Accepted, shape_in, check_rows, check_answer, base_of, made, made_table, state_after, Event, did, events, put_in, latest, page_after, put_beneath, works, last_worked, since_worked, any_put, is_stale}
-use Rattle.tree.specs.Shapes.{layer_count, node_count, place, path, beneath, is_last, Node}
+use Rattle.tree.specs.Shapes.{layer_count, node_count, place, path, beneath, is_last, IsNode}
 use Rattle.tree.specs.Trees.{input, tree}
 use Rattle.tree.specs.Views.{State, View, page_bytes, is_open, digest_at}
 use Rattle.tree.proofs.Events.{Quiet, told_quiet, refused_quiet, pages_same, last_same, last_now, stale_same, stale_put, stale_worked}
@@ -46,10 +46,10 @@ module _ (m : Making) where
     pub as_many : length s.pages ≡ count m.image
     pub open_in : (p : ℕ) → s.opened ≡ Some p → p < count m.image
     pub long : Long (shape_in m) s.table
-    pub unmarked : (k j : ℕ) → Node (shape_in m) k j → marked_at (shape_in m) s.table k j ≡ false
+    pub unmarked : (k j : ℕ) → IsNode (shape_in m) k j → marked_at (shape_in m) s.table k j ≡ false
         → held_at (shape_in m) s.table k j ≡ stored (digest_after m es k j)
-    pub stale : (k j : ℕ) → Node (shape_in m) k j → marked_at (shape_in m) s.table k j ≡ is_stale (fanout_of m.hash) k j es
-    pub old : (k j : ℕ) → Node (shape_in m) k j → held_at (shape_in m) s.table k j ≡ held_from m k j (last_worked k j es)
+    pub stale : (k j : ℕ) → IsNode (shape_in m) k j → marked_at (shape_in m) s.table k j ≡ is_stale (fanout_of m.hash) k j es
+    pub old : (k j : ℕ) → IsNode (shape_in m) k j → held_at (shape_in m) s.table k j ≡ held_from m k j (last_worked k j es)
 
   inv_quiet : (s : State) (es : List Event) (e : Event) (o : Option ℕ) → Inv s es → Quiet e
       → ((p : ℕ) → o ≡ Some p → p < count m.image)
@@ -129,11 +129,11 @@ module _ (m : Making) where
     abbrev put_table : List ℕ
     put_table = mark_path (shape_in m) p (layer_count (shape_in m)) s.table
 
-    put_off : (k j : ℕ) → Node (shape_in m) k j → path (fanout_of m.hash) p k ≢ j
+    put_off : (k j : ℕ) → IsNode (shape_in m) k j → path (fanout_of m.hash) p k ≢ j
         → marked_at (shape_in m) put_table k j ≡ marked_at (shape_in m) s.table k j
     put_off k j v ne = path_off (shape_in m) m.hash.wide p there s.table i.long _ k j (omega arith) v ne
 
-    put_on : (k j : ℕ) → Node (shape_in m) k j → path (fanout_of m.hash) p k ≡ j → marked_at (shape_in m) put_table k j ≡ true
+    put_on : (k j : ℕ) → IsNode (shape_in m) k j → path (fanout_of m.hash) p k ≡ j → marked_at (shape_in m) put_table k j ≡ true
     put_on k j v e =
         subst (λ x. marked_at (shape_in m) put_table k x ≡ true) e
         (path_on (shape_in m) m.hash.wide p there s.table i.long _ k (omega arith) v.low)
@@ -178,7 +178,7 @@ module _ (m : Making) where
   -- STEP
 
   -- the digest that an unmarked node holds is the tree's
-  pub digest_true : (s : State) (es : List Event) → Inv s es → (k j : ℕ) → Node (shape_in m) k j → marked_at (shape_in m) s.table k j ≡ false
+  pub digest_true : (s : State) (es : List Event) → Inv s es → (k j : ℕ) → IsNode (shape_in m) k j → marked_at (shape_in m) s.table k j ≡ false
       → digest_at (seal s) k j ≡ digest_after m es k j
   unfolding digest_at
   digest_true s es i k j v u =
@@ -222,13 +222,13 @@ module _ (m : Making) where
     abbrev Other : ℕ → ℕ → Type 0
     Other k j = (k ≡ k₀) × (j ≡ j₀) → ⊥
 
-    pub step-marked_other : (k j : ℕ) → Node (shape_in m) k j → Other k j
+    pub step-marked_other : (k j : ℕ) → IsNode (shape_in m) k j → Other k j
         → marked_at (shape_in m) worked_table k j ≡ marked_at (shape_in m) s.table k j
     unfolding step_table marked_at
     step-marked_other k j v ne =
         marked-store_other s.table _ _ _ step-digest-short step_room (place_other (shape_in m) k j k₀ j₀ v ready.node ne)
 
-    step-held_other : (k j : ℕ) → Node (shape_in m) k j → Other k j → held_at (shape_in m) worked_table k j ≡ held_at (shape_in m) s.table k j
+    step-held_other : (k j : ℕ) → IsNode (shape_in m) k j → Other k j → held_at (shape_in m) worked_table k j ≡ held_at (shape_in m) s.table k j
     unfolding step_table held_at
     step-held_other k j v ne =
         held-store_other s.table _ _ _ step-digest-short step_room (place_other (shape_in m) k j k₀ j₀ v ready.node ne)
@@ -283,7 +283,7 @@ module _ (m : Making) where
             long = rw step-length i.long;
             unmarked =
                 by_node
-                (λ k j. Node (shape_in m) k j → marked_at (shape_in m) worked_table k j ≡ false
+                (λ k j. IsNode (shape_in m) k j → marked_at (shape_in m) worked_table k j ≡ false
                 → held_at (shape_in m) worked_table k j ≡ stored (digest_after m (step_event ∷ es) k j))
                 (λ v u. step-held ∙ ap (λ page. stored (tree m.hash (count m.image) page k₀ j₀)) (sym w))
                 (λ k j ne v u.
@@ -291,14 +291,14 @@ module _ (m : Making) where
                 ∙ ap (λ page. stored (tree m.hash (count m.image) page k j)) (sym w));
             stale =
                 by_node
-                (λ k j. Node (shape_in m) k j → marked_at (shape_in m) worked_table k j ≡ is_stale (fanout_of m.hash) k j (step_event ∷ es))
+                (λ k j. IsNode (shape_in m) k j → marked_at (shape_in m) worked_table k j ≡ is_stale (fanout_of m.hash) k j (step_event ∷ es))
                 (λ v. step_unmarked ∙ sym (stale_worked k₀ j₀ step_event es _ step-works))
                 (λ k j ne v.
                 step-marked_other k j v ne ∙ i.stale k j v
                 ∙ sym (stale_same k j step_event es _ (step-works_other k j ne) (step-beneath k j)));
             old =
                 by_node
-                (λ k j. Node (shape_in m) k j → held_at (shape_in m) worked_table k j ≡ held_from m k j (last_worked k j (step_event ∷ es)))
+                (λ k j. IsNode (shape_in m) k j → held_at (shape_in m) worked_table k j ≡ held_from m k j (last_worked k j (step_event ∷ es)))
                 (λ v. step-held ∙ ap (held_from m k₀ j₀) (sym (last_now k₀ j₀ step_event es step-works)))
                 (λ k j ne v.
                 step-held_other k j v ne ∙ i.old k j v

@@ -8,14 +8,14 @@ use Rattle.nodehash.specs.declared.position.Position.{Position}
 use Rattle.tree.specs.declared.shape.Shape.{Shape}
 use Rattle.tree.specs.Marks.{marked_at, held_at, marks, leftmost, lowest, next, mark_path}
 use Rattle.tree.specs.Records.{marked, mark}
-use Rattle.tree.specs.Shapes.{layer_count, node_count, over_nodes, place, path, group_size, Node}
+use Rattle.tree.specs.Shapes.{layer_count, node_count, over_nodes, place, path, group_size, IsNode}
 use Rattle.tree.proofs.Below.{by_last, first_none, first_some}
 use Rattle.tree.proofs.Records.{length-mark, marked-mark, marked-mark_other, mark_stays, held-mark}
 use Rattle.tree.proofs.Shapes.{place-below, place_other, path_node, group_node, nodes_zero, nodes_none, nodes_one}
 
-is_none : {A : Type 0} (o : Option A) → is_some o ≡ false → o ≡ None
-is_none (Some x) e = cc
-is_none None e = refl
+none_is : {A : Type 0} (o : Option A) → is_some o ≡ false → o ≡ None
+none_is (Some x) e = cc
+none_is None e = refl
 
 option_map_some : {A B P : Type 0} (f : A → B) (o : Option A) (y : B) → option_map f o ≡ Some y → ((x : A) → o ≡ Some x → f x ≡ y → P) → P
 option_map_some f None y e k = absurd (cc)
@@ -26,20 +26,20 @@ module _ (s : Shape) where
   abbrev pub Long : List ℕ → Type 0
   Long t = 65 * node_count s ≤ length t
 
-  pub room : (t : List ℕ) (k j : ℕ) → Long t → Node s k j → 65 * place s k j + 65 ≤ length t
+  pub room : (t : List ℕ) (k j : ℕ) → Long t → IsNode s k j → 65 * place s k j + 65 ≤ length t
   room t k j h v = let a = place-below s k j v in omega arith
 
   -- A node that can be worked: it is marked, and no node of its group is.
   pub record Ready (t : List ℕ) (k j : ℕ) : Type 0 where
-    pub node : Node s k j
+    pub node : IsNode s k j
     pub is_marked : marked_at s t k j ≡ true
     pub bare : (k' i : ℕ) → k ≡ suc k' → i < group_size s k' j → marked_at s t k' (j * s.fanout + i) ≡ false
 
   -- A marked node below whose layer none is marked.
   record Lowest (t : List ℕ) (k j : ℕ) : Type 0 where
-    node : Node s k j
+    node : IsNode s k j
     is_marked : marked_at s t k j ≡ true
-    lower : (k' j' : ℕ) → k' < k → Node s k' j' → marked_at s t k' j' ≡ false
+    lower : (k' j' : ℕ) → k' < k → IsNode s k' j' → marked_at s t k' j' ≡ false
 
   lowest_ready : (t : List ℕ) (k j : ℕ) → Lowest t k j → Ready t k j
   lowest_ready t k j c = record {
@@ -48,17 +48,17 @@ module _ (s : Shape) where
     bare = λ k' i e l. c.lower k' (j * s.fanout + i) (omega arith) (group_node s k k' j i c.node e l);
   }
 
-  none_left : (t : List ℕ) → lowest s t ≡ None → (k j : ℕ) → Node s k j → marked_at s t k j ≡ false
+  none_left : (t : List ℕ) → lowest s t ≡ None → (k j : ℕ) → IsNode s k j → marked_at s t k j ≡ false
   unfolding lowest leftmost
   none_left t e k j v =
-      first_none (marked_at s t k) _ (is_none _ (first_none (λ x. is_some (leftmost s t x)) _ e k v.low)) j v.left
+      first_none (marked_at s t k) _ (none_is _ (first_none (λ x. is_some (leftmost s t x)) _ e k v.low)) j v.left
 
   leftmost_some : (t : List ℕ) (k : ℕ) → lowest s t ≡ Some k → is_some (leftmost s t k) ≡ true
   unfolding lowest
   leftmost_some t k e = (first_some _ _ k e).passes
 
   -- where there is no next node, none is marked
-  pub next_none : (t : List ℕ) → next s t ≡ None → (k j : ℕ) → Node s k j → marked_at s t k j ≡ false
+  pub next_none : (t : List ℕ) → next s t ≡ None → (k j : ℕ) → IsNode s k j → marked_at s t k j ≡ false
   unfolding next
   next_none t e k j v = go (lowest s t) refl e
     where
@@ -78,7 +78,7 @@ module _ (s : Shape) where
       record {
         node = record { low = a.below; left = b.below };
         is_marked = b.passes;
-        lower = λ k' j' l v. first_none (marked_at s t k') _ (is_none _ (a.least k' l)) j' v.left;
+        lower = λ k' j' l v. first_none (marked_at s t k') _ (none_is _ (a.least k' l)) j' v.left;
       }
 
   -- the next node can be worked
@@ -108,7 +108,7 @@ module _ (s : Shape) where
   weight_zero true e = absurd (omega arith)
   weight_zero false e = refl
 
-  pub marks_zero : (t : List ℕ) → marks s t ≡ 0 → (k j : ℕ) → Node s k j → marked_at s t k j ≡ false
+  pub marks_zero : (t : List ℕ) → marks s t ≡ 0 → (k j : ℕ) → IsNode s k j → marked_at s t k j ≡ false
   unfolding marks
   marks_zero t e k j v = weight_zero _ (nodes_zero s _ e k j v)
 
@@ -116,18 +116,18 @@ module _ (s : Shape) where
   abbrev pub weighed : (ℕ → ℕ → ℕ) → List ℕ → ℕ
   weighed w t = over_nodes s (λ k j. cond (marked_at s t k j) (w k j) 0)
 
-  pub weighed_none : (w : ℕ → ℕ → ℕ) (t : List ℕ) → ((k j : ℕ) → Node s k j → marked_at s t k j ≡ false) → weighed w t ≡ 0
+  pub weighed_none : (w : ℕ → ℕ → ℕ) (t : List ℕ) → ((k j : ℕ) → IsNode s k j → marked_at s t k j ≡ false) → weighed w t ≡ 0
   weighed_none w t h = nodes_none s _ (λ k j v. rw (h k j v))
 
   -- a node that loses its mark loses its weight
-  pub weighed_one : (w : ℕ → ℕ → ℕ) (t t' : List ℕ) (k₀ j₀ : ℕ) → Node s k₀ j₀ → marked_at s t k₀ j₀ ≡ true → marked_at s t' k₀ j₀ ≡ false
-      → ((k j : ℕ) → Node s k j → ((k ≡ k₀) × (j ≡ j₀) → ⊥) → marked_at s t' k j ≡ marked_at s t k j)
+  pub weighed_one : (w : ℕ → ℕ → ℕ) (t t' : List ℕ) (k₀ j₀ : ℕ) → IsNode s k₀ j₀ → marked_at s t k₀ j₀ ≡ true → marked_at s t' k₀ j₀ ≡ false
+      → ((k j : ℕ) → IsNode s k j → ((k ≡ k₀) × (j ≡ j₀) → ⊥) → marked_at s t' k j ≡ marked_at s t k j)
       → weighed w t ≡ w k₀ j₀ + weighed w t'
   weighed_one w t t' k₀ j₀ v is was same =
       nodes_one s _ _ k₀ j₀ (w k₀ j₀) v (rw (is, was) (omega arith)) (λ k j u ne. ap (λ b. cond b (w k j) 0) (sym (same k j u ne)))
 
   -- a mark adds one at most
-  marks-mark : (t : List ℕ) (k₀ j₀ : ℕ) → Long t → Node s k₀ j₀ → marks s (mark t (place s k₀ j₀)) ≤ 1 + marks s t
+  marks-mark : (t : List ℕ) (k₀ j₀ : ℕ) → Long t → IsNode s k₀ j₀ → marks s (mark t (place s k₀ j₀)) ≤ 1 + marks s t
   unfolding marks marked_at
   marks-mark t k₀ j₀ long v = go (marked t (place s k₀ j₀)) refl
     where
@@ -145,7 +145,7 @@ module _ (s : Shape) where
     path_long m = rw length-path long
 
     -- nodes off the path keep their marks
-    pub path_off : (m k j : ℕ) → m ≤ layer_count s → Node s k j → path s.fanout p k ≢ j
+    pub path_off : (m k j : ℕ) → m ≤ layer_count s → IsNode s k j → path s.fanout p k ≢ j
         → marked_at s (mark_path s p m t) k j ≡ marked_at s t k j
     unfolding mark_path marked_at
     path_off zero k j l v ne = refl

@@ -9,7 +9,7 @@ use Rattle.tree.specs.Calls.{Call, Open, Put, Withdraw, Step, Root, Stale, told,
 use Rattle.tree.specs.Laws.{root_after, RootTrue, CountTrue}
 use Rattle.tree.specs.Marks.{marks}
 use Rattle.tree.specs.Runs.{Making, Accepted, shape_in, state_after, Event, did, events, put_in}
-use Rattle.tree.specs.Shapes.{root_layer, layer_count, Node}
+use Rattle.tree.specs.Shapes.{root_layer, layer_count, IsNode}
 use Rattle.tree.specs.Trees.{tree_root}
 use Rattle.tree.specs.Views.{State, digest_at}
 use Rattle.tree.proofs.Events.{pages_same}
@@ -29,7 +29,7 @@ told_other : {A : Type 0} (f : A → Reply) (r : Result A Fault) (y : Reply) →
 told_other f r y ne e = let t = told_ok f r y e in ne t.0 t.2
 
 module _ (m : Making) (acc : Accepted m) where
-  root_node : Node (shape_in m) (root_layer (shape_in m)) 0
+  root_node : IsNode (shape_in m) (root_layer (shape_in m)) 0
   unfolding layer_count
   root_node =
       let b = layer_some (shape_in m) (root_layer (shape_in m)) m.hash.wide (some_pages m acc) in

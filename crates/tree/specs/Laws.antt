@@ -10,7 +10,7 @@ use Rattle.tree.specs.Calls.{Call, Step, Root, estimate_answer}
 use Rattle.tree.specs.Marks.{marked_at, held_at, marks}
 use Rattle.tree.specs.Records.{stored, zeros}
 use Rattle.tree.specs.Runs.{Making, Event, did, shape_in, state_after, view_after, answer_to, buffer_after, events, put_in, page_after, last_worked, is_stale, blocks_in}
-use Rattle.tree.specs.Shapes.{Node, layer_size, layer_count, root_layer, over_nodes}
+use Rattle.tree.specs.Shapes.{IsNode, layer_size, layer_count, root_layer, over_nodes}
 use Rattle.tree.specs.Trees.{tree, tree_blocks, tree_root}
 
 -- calls that are steps alone, each with a work buffer of 4,096 bytes
@@ -60,15 +60,15 @@ module _ (m : Making) (calls : List Call) where
 
   -- Every unmarked node holds the digest that the tree of the image as it then is gives it.
   abbrev pub UnmarkedTrue : Type 0
-  UnmarkedTrue = (k j : ℕ) → Node (shape_in m) k j → IsFalse (is_marked k j) → holds k j ≡ stored (digest_after m (events m calls) k j)
+  UnmarkedTrue = (k j : ℕ) → IsNode (shape_in m) k j → IsFalse (is_marked k j) → holds k j ≡ stored (digest_after m (events m calls) k j)
 
   -- A node is marked exactly when it was never worked or an accepted put on a page beneath it came since.
   abbrev pub MarkedStale : Type 0
-  MarkedStale = (k j : ℕ) → Node (shape_in m) k j → is_marked k j ≡ is_stale (fanout_of m.hash) k j (events m calls)
+  MarkedStale = (k j : ℕ) → IsNode (shape_in m) k j → is_marked k j ≡ is_stale (fanout_of m.hash) k j (events m calls)
 
   -- A marked node holds the digest that the tree gave it when it was last worked, or zeros if it never was.
   abbrev pub MarkedOld : Type 0
-  MarkedOld = (k j : ℕ) → Node (shape_in m) k j → IsTrue (is_marked k j) → holds k j ≡ held_from m k j (last_worked k j (events m calls))
+  MarkedOld = (k j : ℕ) → IsNode (shape_in m) k j → IsTrue (is_marked k j) → holds k j ≡ held_from m k j (last_worked k j (events m calls))
 
   -- A root that a further call gives out is the root of the tree of the image as it then is.
   abbrev pub RootTrue : Type 0

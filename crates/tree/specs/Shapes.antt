@@ -17,7 +17,7 @@ unfoldable pub layer_count : Shape → ℕ
 layer_count s = suc (root_layer s)
 
 -- k:j is a node: its depth k is that of a layer, and its offset j is in that layer
-pub record Node (s : Shape) (k j : ℕ) : Type 0 where
+pub record IsNode (s : Shape) (k j : ℕ) : Type 0 where
   pub low : k < layer_count s
   pub left : j < layer_size s k
 
