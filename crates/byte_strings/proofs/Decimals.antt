@@ -1,9 +1,9 @@
 -- Decimal text: what its reader and its writer do at each digit, and that they are inverse to each other.
-use Rattle.std.proofs.Common.{◌≡◌, ℕ, zero, suc, ◌+◌, ◌-◌, ◌*◌, ◌/◌, ◌%◌, ◌^◌, ◌<◌, ◌≤◌, Bool, true, false, cond, not, ◌&&◌, eqb, ltb, leb, List, [], ◌∷◌, ◌++◌, length, get_or, take, Some, None, decimal, sym, refl, ap, ◌∙◌, subst, ⊎_elim, append_assoc, arith}
+use Rattle.std.proofs.Common.{◌≡◌, ℕ, zero, suc, ◌+◌, ◌-◌, ◌*◌, ◌^◌, ◌<◌, ◌≤◌, Bool, true, false, cond, not, ◌&&◌, eqb, ltb, leb, List, [], ◌∷◌, length, get_or, take, Some, None, decimal, sym, refl, ap, ◌∙◌, subst, ⊎_elim, arith}
 use native.Mathlib.Nat.{pow-le-pow_right}
-use Rattle.std.proofs.lemmas.Fmt.{decimal_digit, decimal_step, decimal_nonempty, decimal_is_IsNumeral, decimal-digits_value, digits_value-decimal, first_decimal, length-decimal-le}
+use Rattle.std.proofs.lemmas.Fmt.{decimal_digit, decimal_nonempty, decimal_is_IsNumeral, decimal-digits_value, digits_value-decimal, first_decimal, length-decimal-le}
 use Rattle.std.proofs.lemmas.Int.Digits.{digits_value-lt, digits_value_more, digits_more}
-use Rattle.std.proofs.lemmas.List.{length-take-le, length_push}
+use Rattle.std.proofs.lemmas.List.{length-take-le}
 use Rattle.std.proofs.lemmas.Str.Parse.{IsNumeralModel, numerals_by_value, tells_all_ascii_digits, digits_value_short}
 use Rattle.std.proofs.lemmas.Bool.{ne_eqb, le-ltb, lt-ltb, le-leb, and_parts, and_cases, and_left, and_right, leb-true, ltb-false, eqb-false, not-true, cases_lt}
 use Rattle.std.specs.Str.Parse.{digits_value, AllDigits}
@@ -55,15 +55,6 @@ one_more v i n x lt dig e ds is =
       digits_more 10 v i lt ds (omega (arith, dv, leb-true (get_or v i 0) 57 p.1)),
       omega (arith, dv, digits_value_more 10 v i lt),
     )
-
--- writing: the last digit
-
-pub digits_length : (n : ℕ) → 10 ≤ n → n < 2 ^ 16 → length (decimal n) ≡ length (decimal (n / 10)) + 1
-digits_length n low high = ap length (decimal_step n low (omega arith)) ∙ length_push (decimal (n / 10)) (48 + n % 10)
-
-pub last_digit : (n : ℕ) (a : List ℕ) {b c : List ℕ} → 10 ≤ n → n < 2 ^ 16 → b ≡ a ++ decimal (n / 10) → c ≡ b ++ ((48 + n % 10) ∷ []) → c ≡ a ++ decimal n
-last_digit n a low high p q =
-    q ∙ ap (λ l. l ++ ((48 + n % 10) ∷ [])) p ∙ append_assoc a (decimal (n / 10)) ((48 + n % 10) ∷ []) ∙ ap (λ l. a ++ l) (sym (decimal_step n low (omega arith)))
 
 -- the two are inverse
 
