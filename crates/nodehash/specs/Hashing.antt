@@ -15,7 +15,7 @@ pub record Hashing : Type 0 where
   pub narrow : label.fanout ≤ 16
   pub few : (depth n : ℕ) → n ≤ 4096 → blocks depth n ≤ 65
 
--- the position of node k:j
+-- the position of node k:j; a definition that goes by the depth takes k and j
 abbrev pub node : ℕ → ℕ → Position
 node k j = record { depth = k; offset = j }
 

@@ -20,7 +20,7 @@ pub trait NodeHash {
         ensures { result ≡ (meaning self.now).fit };
 
     // Writes the digest of a node into `out`, which must be as long as the digest, and says how many blocks it took.
-    // `last` tells that the node is the last of its layer. The input is a page, or the joined digests of the nodes below.
+    // `last` tells that the node is the last of its layer, which its position alone does not. The input is a page, or the joined digests of the nodes below.
     fn hash(
         &self,
         position: Position,
