@@ -21,7 +21,7 @@ cut_extent size state_at buffer good =
     let less : n - 1 < n = omega (arith, fine.some) in
     let all : n * size ≡ (n - 1) * size + size = ap (λ k. k * size) (omega (arith, fine.some)) ∙ add-mul (n - 1) 1 size ∙ ap (λ k. (n - 1) * size + k) (one-mul size) in
     let last : length buffer - (n - 1) * size ≡ length_at m (n - 1) = omega (arith, cut-length size n state_at buffer (n - 1) less, fine.reach) in
-    ap (λ l. record { size = size; count = n; last = l }) last ∙ ap (λ k. record { size = size; count = k; last = length_at m (k - 1) }) (sym c)
+    cc
 
 -- another buffer of the same length is cut alike
 module _ (size n : ℕ) (state_at : ℕ → PageState) (buffer other : List ℕ) (e : length other ≡ length buffer) where
@@ -36,9 +36,9 @@ module _ (size n : ℕ) (state_at : ℕ → PageState) (buffer other : List ℕ)
 
   pub alike_extent : extent_of (cut_pages size n state_at buffer) ≡ extent_of (cut_pages size n state_at other)
   alike_extent =
-      let m = cut_pages size n state_at buffer in
-      ap (λ l. record { size = size; count = count m; last = l }) (sym (alike-length (count m - 1)))
-      ∙ ap (λ k. record { size = size; count = k; last = length_at (cut_pages size n state_at other) (k - 1) }) (sym alike-count)
+      let c = alike-count in
+      let last = alike-length (count (cut_pages size n state_at buffer) - 1) in
+      cc
 
   pub alike_sound : WellFormed (cut_pages size n state_at buffer) → WellFormed (cut_pages size n state_at other)
   alike_sound sound =

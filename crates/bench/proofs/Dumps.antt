@@ -1,7 +1,8 @@
 -- What a dump says of its pages.
-use Rattle.std.proofs.Common.{◌≡◌, ℕ, ◌<◌, Bool, true, false, cond, not, ◌&&◌, eqb, List, length, is_ok, Some, None, Ok, sym, refl, subst, ap, ◌∙◌, ⊎_elim, arith}
+use Rattle.std.proofs.Common.{◌≡◌, ℕ, ◌<◌, Bool, true, false, cond, not, ◌&&◌, eqb, List, length, is_ok, Some, None, Ok, sym, refl, ap, ◌∙◌, arith}
 use Rattle.std.specs.Result.{result_unwrap_or}
-use Rattle.std.proofs.lemmas.Bool.{and_parts, eqb-true, eq-eqb, cases_eq, ne_eqb}
+use Rattle.std.proofs.lemmas.Bool.{and_parts, eqb-true, eq-eqb}
+use Rattle.std.proofs.lemmas.Bool.Decides.{nat_tests}
 use Rattle.image.specs.Answers.{read_answer}
 use Rattle.image.specs.Pages.{Page, count, extent_of, page_at, state_of}
 use Rattle.image.specs.declared.extent.Extent.{Extent}
@@ -59,15 +60,4 @@ module _ (size : ℕ) (states buffer : List ℕ) where
 
 -- what a state byte says of a page
 pub state_is : (s : ℕ) → result_unwrap_or (state_of s) (record { readable = true; locked = false }) ≡ record { readable = not (eqb s 2); locked = eqb s 1 }
-state_is s =
-    let P : ℕ → Type 0 = λ k. result_unwrap_or (state_of k) (record { readable = true; locked = false }) ≡ record { readable = not (eqb k 2); locked = eqb k 1 } in
-    ⊎_elim
-    (λ z. subst P (sym z) refl)
-    (λ n0. ⊎_elim
-    (λ z. subst P (sym z) refl)
-    (λ n1. ⊎_elim
-    (λ z. subst P (sym z) refl)
-    (λ n2. rw (ne_eqb s 0 n0, ne_eqb s 1 n1, ne_eqb s 2 n2) refl)
-    (cases_eq s 2))
-    (cases_eq s 1))
-    (cases_eq s 0)
+state_is s = grind (arith, nat_tests)

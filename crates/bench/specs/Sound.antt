@@ -1,7 +1,8 @@
 -- The image of a buffer is well-formed. The code cites the proof in `ghost sound`, so it stands with the definitions.
-use Rattle.std.specs.Prelude.{◌≡◌, ℕ, ◌+◌, ◌-◌, ◌*◌, ◌<◌, ◌≤◌, min, false, not, ◌&&◌, List, length, drop, ◌==◌, nat_lt}
+use Rattle.std.specs.Prelude.{◌≡◌, ℕ, ◌+◌, ◌-◌, ◌*◌, ◌<◌, ◌≤◌, min, false, not, ◌&&◌, List, length, drop, ◌==◌}
 use Rattle.std.proofs.Common.{ap, ◌∙◌, add-mul, one-mul, arith}
-use Rattle.std.proofs.lemmas.Bool.{or_parts, and_parts, not-true, ltb-false, eqb-false}
+use Rattle.std.proofs.lemmas.Bool.Decides.{nat_tests}
+use Rattle.std.proofs.lemmas.Bool.{and_parts, not-true}
 use Rattle.std.proofs.lemmas.Grind.{div_ceil_times}
 use Rattle.std.proofs.lemmas.List.{length-take, length-drop}
 use Rattle.std.proofs.lemmas.List.FromFn.{length-map-range_with_len, get_or-map-range_with_len}
@@ -37,17 +38,13 @@ pub record Fine (size len : ℕ) : Type 0 where
 
 pub shape_fine : (size len : ℕ) → shape_bad size len ≡ false → Fine size len
 shape_fine size len h =
-    let n = pages_of size len in
-    let a = or_parts (nat_lt size 64) _ h in
-    let b = or_parts (nat_lt 4096 size) _ a.1 in
-    let c = or_parts (n == 0) _ b.1 in
-    let low : 64 ≤ size = ltb-false size 64 a.0 in
+    let low : 64 ≤ size = grind (arith, nat_tests) in
     let fit = div_ceil_times len size (omega arith) in
     record {
       low = low;
-      high = ltb-false 4096 size b.0;
-      some = omega (arith, eqb-false n 0 c.0);
-      few = ltb-false 4096 n c.1;
+      high = grind (arith, nat_tests);
+      some = grind (arith, nat_tests);
+      few = grind (arith, nat_tests);
       reach = fit.0;
       near = fit.1;
     }

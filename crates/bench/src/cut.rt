@@ -8,11 +8,11 @@ use image::Extent;
 pub(crate) fn extent(size: usize, len: usize) -> Option<Extent>
     ensures { result ≡ extent_in size len }
 {
-    if size < 64 || size > 4096 {
+    if !(64..=4096).contains(&size) {
         return None;
     }
     let count = len.div_ceil(size);
-    if count == 0 || count > 4096 {
+    if !(1..=4096).contains(&count) {
         return None;
     }
     Some(Extent {

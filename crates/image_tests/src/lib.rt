@@ -1,6 +1,42 @@
 // Images of every kind, through the interface that all have.
 #![tactic(auto)]
 
+ghost use Rattle.std.specs.Prelude.{◌≡◌, false, length, is_ok, OnOk, OnErr};
+ghost use Rattle.bench.specs.Benches.{bench_made};
+ghost use Rattle.bench.specs.Buffers.{cut};
+ghost use Rattle.image.specs.Answers.{write_answer, written};
+
+use bench::BenchImage;
+use fault::Fault;
+use image::EditableImage;
+
+// Puts a page by the interface alone.
+fn put<I: EditableImage>(image: &mut I, page: usize, bytes: &[u8]) -> Result<(), Fault>
+    ensures answer { result ≡ write_answer (I.Image.meaning image.old) page (length bytes.now) }
+    ensures after { I.Image.meaning image.new ≡ written (I.Image.meaning image.old) page bytes.now }
+    ensures frame { I.Image.frame image.new ≡ I.Image.frame image.old }
+    ensures kept { is_ok result ≡ false → image.new ≡ image.old }
+{
+    image.write(page, bytes)
+}
+
+// One who lends a buffer to an image has it back with what `put` wrote, and nothing else is changed.
+pub fn put_in_lent(
+    size: usize,
+    locked: usize,
+    buffer: &mut [u8],
+    page: usize,
+    bytes: &[u8],
+) -> Result<(), Fault>
+    ensures answer { result ≡ write_answer (bench_made size locked buffer.old) page (length bytes.now) }
+    ensures after { bench_made size locked buffer.new ≡ written (bench_made size locked buffer.old) page bytes.now }
+    ensures put { OnOk result (cut size buffer.new page ≡ bytes.now) }
+    ensures refused { OnErr result (buffer.new ≡ buffer.old) }
+{
+    let mut image = BenchImage::make(size, locked, buffer);
+    put(&mut image, page, bytes)
+}
+
 #[cfg(test)]
 mod tests {
     use bench::{BenchImage, ChipDump};

@@ -3,7 +3,7 @@ use Rattle.std.proofs.Common.{◌≡◌, ℕ, ◌+◌, ◌-◌, ◌<◌, ◌≤�
 use Rattle.std.proofs.lemmas.Bool.{cond-true, le-leb, lt-leb, cases_lt}
 use Rattle.std.proofs.lemmas.Bool.Decides.{nat_tests}
 use Rattle.fault.specs.Faults.{on, unless}
-use Rattle.fault.specs.declared.refusal.Refusal.TheVariants.{PageAbsent, PageBuffer, PageUnreadable, PageLocked, PairParts}
+use Rattle.fault.specs.declared.refusal.Refusal.TheVariants.{PageAbsent, PageBuffer, PageUnreadable, PageLocked}
 use Rattle.image.specs.Answers.{Answer, read_answer, read_out, write_answer}
 use Rattle.image.specs.Pages.{Page, Pages, count, page_at, length_at, extent_of, no_pages}
 use Rattle.image.specs.declared.extent.Extent.{Extent}
@@ -31,24 +31,20 @@ module _ (a b : Pages) (ok : is_ok (pair_answer a b) ≡ true) where
       let here : count a + count b - 1 - count a ≡ count b - 1 = omega (arith, fit.more) in
       let last : length_at b (count b - 1) ≡ length_at (pair_made a b) (count a + count b - 1) =
       ap (length_at b) (sym here) ∙ sym (ap (λ (p : Page). length p.bytes) (made_back (count a + count b - 1) (omega (arith, fit.more)))) in
-      ap (λ l. record { size = a.size; count = count a + count b; last = l }) last
-      ∙ ap (λ n. record { size = a.size; count = n; last = length_at (pair_made a b) (n - 1) }) (sym made-count)
-      ∙ ap (λ (m : Pages). record { size = m.size; count = count (pair_made a b); last = length_at (pair_made a b) (count (pair_made a b) - 1) }) (sym made_is)
+      let e = made_is in
+      let c = made-count in
+      cc
 
 -- how large the pair is, read off its parts' extents
 extent_by : (a b : Pages) (bad : Bool) → parts_bad (extent_of a) (extent_of b) ≡ bad
     → unwrap_or (cond bad None (Some (record { size = a.size; count = count a + count b; last = (extent_of b).last }))) (extent_of no_pages) ≡ extent_of (pair_made a b)
-extent_by a b true e = ap (λ bad. extent_of (cond (is_ok (unless {A = Unit {0}} (on bad PairParts 0 ∷ []) tt)) (joined a b) no_pages)) (sym e)
-extent_by a b false e = made_extent a b (ap (λ bad. is_ok (unless {A = Unit {0}} (on bad PairParts 0 ∷ []) tt)) e)
+extent_by a b true e = rw e refl
+extent_by a b false e = made_extent a b (rw e refl)
 
 -- as the code has it: x and y are what the parts' extents were asked as
 pub extent_joined : (a b : Pages) (x y none : Extent) → x ≡ extent_of a → y ≡ extent_of b → none ≡ extent_of no_pages
     → unwrap_or (joined_extent x y) none ≡ extent_of (pair_made a b)
-extent_joined a b x y none ex ey nothing =
-    ap (λ e. unwrap_or (joined_extent e y) none) ex
-    ∙ ap (λ e. unwrap_or (joined_extent (extent_of a) e) none) ey
-    ∙ ap (unwrap_or (joined_extent (extent_of a) (extent_of b))) nothing
-    ∙ extent_by a b (parts_bad (extent_of a) (extent_of b)) refl
+extent_joined a b x y none ex ey nothing = cc (extent_by a b (parts_bad (extent_of a) (extent_of b)) refl)
 
 -- the same answer, its fault about page k
 abbrev pub about_page : ℕ → Answer → Answer
@@ -91,24 +87,20 @@ module _ (a b : Pages) (k : ℕ) (m : Pages) (there : ℕ) (p : IsPage a b k m t
   pub read_is : (n : ℕ) → read_answer (pair_made a b) k n ≡ about_page k (read_answer m there n)
   read_is n =
       let q = page_at m there in
-      ap (λ t. read_by t (not (eqb n (length_at (pair_made a b) k))) (page_at (pair_made a b) k).state.readable k) p.gone
-      ∙ ap (λ (x : Page). read_by (leb (count m) there) (not (eqb n (length x.bytes))) x.state.readable k) p.same
-      ∙ sym (read_about (leb (count m) there) (not (eqb n (length q.bytes))) q.state.readable there k)
+      let told = read_about (leb (count m) there) (not (eqb n (length q.bytes))) q.state.readable there k in
+      cc
 
   pub write_is : (n : ℕ) → write_answer (pair_made a b) k n ≡ about_page k (write_answer m there n)
   write_is n =
       let q = page_at m there in
-      ap (λ t. write_by t (not (eqb n (length_at (pair_made a b) k))) (page_at (pair_made a b) k).state k) p.gone
-      ∙ ap (λ (x : Page). write_by (leb (count m) there) (not (eqb n (length x.bytes))) x.state k) p.same
-      ∙ sym (write_about (leb (count m) there) (not (eqb n (length q.bytes))) q.state.readable q.state.locked there k)
+      let told = write_about (leb (count m) there) (not (eqb n (length q.bytes))) q.state.readable q.state.locked there k in
+      cc
 
   pub write_ok : (n : ℕ) → is_ok (write_answer (pair_made a b) k n) ≡ is_ok (write_answer m there n)
   write_ok n = ap is_ok (write_is n) ∙ about_ok k (write_answer m there n)
 
   pub out_is : (out : List ℕ) → read_out (pair_made a b) k out ≡ read_out m there out
-  out_is out =
-      ap (λ r. cond r (page_at (pair_made a b) k).bytes out) (ap is_ok (read_is (length out)) ∙ about_ok k (read_answer m there (length out)))
-      ∙ ap (λ (x : Page). cond (is_ok (read_answer m there (length out))) x.bytes out) p.same
+  out_is out = cc (ap is_ok (read_is (length out)), about_ok k (read_answer m there (length out)))
 
 -- what the part of page k says
 pub record InFirst (a b : Pages) (k there : ℕ) : Type 0 where
@@ -158,31 +150,21 @@ in_second a b k there e =
 -- as the code has it: the page lies in this part, whose answer is r
 module _ (a b : Pages) (k there n : ℕ) (r : Answer) (e : Some (First there) ≡ part_at a b k) where
   pub read_first : r ≡ read_answer a there n → r ≡ read_answer (pair_made a b) k n
-  read_first asked =
-      let p = in_first a b k there e in
-      let q = page_at a there in
-      asked
-      ∙ sym (read_about (leb (count a) there) (not (eqb n (length q.bytes))) q.state.readable there there)
-      ∙ ap (λ i. about_page i (read_answer a there n)) p.same ∙ sym (read_is a b k a there p.page n)
+  read_first asked = let p = in_first a b k there e in cc
 
   pub write_first : r ≡ write_answer a there n → r ≡ write_answer (pair_made a b) k n
-  write_first asked =
-      let p = in_first a b k there e in
-      let q = page_at a there in
-      asked
-      ∙ sym (write_about (leb (count a) there) (not (eqb n (length q.bytes))) q.state.readable q.state.locked there there)
-      ∙ ap (λ i. about_page i (write_answer a there n)) p.same ∙ sym (write_is a b k a there p.page n)
+  write_first asked = let p = in_first a b k there e in cc
 
 -- and here the pair's answer r' is r about its own page
 module _ (a b : Pages) (k there n : ℕ) (r r' : Answer) (e : Some (Second there) ≡ part_at a b k) (told : r' ≡ about_page k r) where
   pub read_second : r ≡ read_answer b there n → r' ≡ read_answer (pair_made a b) k n
-  read_second asked = told ∙ ap (about_page k) asked ∙ sym (read_is a b k b there (in_second a b k there e).page n)
+  read_second asked = cc (read_is a b k b there (in_second a b k there e).page n)
 
   pub write_second : r ≡ write_answer b there n → r' ≡ write_answer (pair_made a b) k n
-  write_second asked = told ∙ ap (about_page k) asked ∙ sym (write_is a b k b there (in_second a b k there e).page n)
+  write_second asked = cc (write_is a b k b there (in_second a b k there e).page n)
 
 pub out_first : (a b : Pages) (k there : ℕ) (out after : List ℕ) → Some (First there) ≡ part_at a b k → after ≡ read_out a there out → after ≡ read_out (pair_made a b) k out
-out_first a b k there out after e left = left ∙ sym (out_is a b k a there (in_first a b k there e).page out)
+out_first a b k there out after e left = let p = in_first a b k there e in cc
 
 pub out_second : (a b : Pages) (k there : ℕ) (out after : List ℕ) → Some (Second there) ≡ part_at a b k → after ≡ read_out b there out → after ≡ read_out (pair_made a b) k out
 out_second a b k there out after e left = left ∙ sym (out_is a b k b there (in_second a b k there e).page out)

@@ -1,5 +1,5 @@
 -- A write to one part is a write to the pair.
-use Rattle.std.proofs.Common.{◌≡◌, ℕ, ◌-◌, ◌<◌, ◌≤◌, Bool, true, false, cond, List, [], ◌∷◌, ◌++◌, length, set, is_ok, Some, sym, refl, ap, ◌∙◌, ⊎_elim}
+use Rattle.std.proofs.Common.{◌≡◌, ℕ, ◌-◌, ◌<◌, ◌≤◌, Bool, true, false, cond, List, [], ◌∷◌, length, is_ok, Some, sym, refl, ap, ◌∙◌, ⊎_elim}
 use Rattle.std.proofs.lemmas.List.{length-set, get_or-set_same, get_or-set_other, set-append_left, set-append_right}
 use Rattle.std.proofs.lemmas.Bool.{cases_eq}
 use Rattle.fault.specs.Faults.{on, unless}
@@ -28,8 +28,9 @@ module _ (a : Pages) (k : ℕ) (bytes : List ℕ) (h : k < count a) (e : length 
   extent_after : extent_of (with_page a k bytes) ≡ extent_of a
   unfolding changed
   extent_after =
-      ap (λ n. record { size = a.size; count = n; last = length_at (with_page a k bytes) (n - 1) }) (length-set a.pages k changed)
-      ∙ ap (λ l. record { size = a.size; count = count a; last = l }) (length-after (count a - 1))
+      let c : count (with_page a k bytes) ≡ count a = length-set a.pages k changed in
+      let last = length-after (count a - 1) in
+      cc
 
 -- whether two can be joined is read off their extents
 abbrev answer_by : Extent → Extent → Answer
@@ -38,17 +39,21 @@ answer_by x y = unless (on (parts_bad x y) PairParts 0 ∷ []) tt
 module _ (a b : Pages) (ok : is_ok (pair_answer a b) ≡ true) (k : ℕ) (bytes : List ℕ) where
   with_front : k < count a → length bytes ≡ length_at a k → pair_made (with_page a k bytes) b ≡ with_page (pair_made a b) k bytes
   with_front h e =
-      made_is (with_page a k bytes) b (ap (λ x. is_ok (answer_by x (extent_of b))) (extent_after a k bytes h e) ∙ ok)
-      ∙ ap (λ ps. record { size = a.size; pages = ps }) (sym (set-append_left a.pages b.pages k (record { bytes = bytes; state = (page_at a k).state }) h))
-      ∙ ap (λ (p : Page). record { size = a.size; pages = set (a.pages ++ b.pages) k (record { bytes = bytes; state = p.state }) }) (sym (front_at a b k h))
-      ∙ ap (λ m. with_page m k bytes) (sym (made_is a b ok))
+      let same = extent_after a k bytes h e in
+      let made = made_is (with_page a k bytes) b (cc) in
+      let put = set-append_left a.pages b.pages k (record { bytes = bytes; state = (page_at a k).state }) h in
+      let there = front_at a b k h in
+      let all = made_is a b ok in
+      cc
 
   with_back : count a ≤ k → k - count a < count b → length bytes ≡ length_at b (k - count a) → pair_made a (with_page b (k - count a) bytes) ≡ with_page (pair_made a b) k bytes
   with_back h l e =
-      made_is a (with_page b (k - count a) bytes) (ap (λ x. is_ok (answer_by (extent_of a) x)) (extent_after b (k - count a) bytes l e) ∙ ok)
-      ∙ ap (λ ps. record { size = a.size; pages = ps }) (sym (set-append_right a.pages b.pages (count a) k (record { bytes = bytes; state = (page_at b (k - count a)).state }) refl h))
-      ∙ ap (λ (p : Page). record { size = a.size; pages = set (a.pages ++ b.pages) k (record { bytes = bytes; state = p.state }) }) (sym (back_at a b k h))
-      ∙ ap (λ m. with_page m k bytes) (sym (made_is a b ok))
+      let same = extent_after b (k - count a) bytes l e in
+      let made = made_is a (with_page b (k - count a) bytes) (cc) in
+      let put = set-append_right a.pages b.pages (count a) k (record { bytes = bytes; state = (page_at b (k - count a)).state }) refl h in
+      let there = back_at a b k h in
+      let all = made_is a b ok in
+      cc
 
   front_by : (good : Bool) → k < count a → is_ok (write_answer a k (length bytes)) ≡ good → pair_made (cond good (with_page a k bytes) a) b ≡ cond good (with_page (pair_made a b) k bytes) (pair_made a b)
   front_by true h e = with_front h (write_tells a k (length bytes) e).1
@@ -61,21 +66,12 @@ module _ (a b : Pages) (ok : is_ok (pair_answer a b) ≡ true) (k : ℕ) (bytes 
 
 -- as the code has it: the page lies in this part, and the part is written
 module _ (a b : Pages) (k there : ℕ) (bytes : List ℕ) (after : Pages) where
-  abbrev written_as : Bool → Pages
-  written_as good = cond good (with_page (pair_made a b) k bytes) (pair_made a b)
-
   pub written_first : Some (First there) ≡ part_at a b k → after ≡ written a there bytes → pair_made after b ≡ written (pair_made a b) k bytes
   written_first e done =
       let p = in_first a b k there e in
-      ap (λ m. pair_made m b) (done ∙ ap (λ i. written a i bytes) p.same)
-      ∙ front_by a b p.page.ok k bytes (is_ok (write_answer a k (length bytes))) p.less refl
-      ∙ ap (λ i. written_as (is_ok (write_answer a i (length bytes)))) (sym p.same)
-      ∙ ap written_as (sym (write_ok a b k a there p.page (length bytes)))
+      cc (front_by a b p.page.ok k bytes (is_ok (write_answer a k (length bytes))) p.less refl, write_ok a b k a there p.page (length bytes))
 
   pub written_second : Some (Second there) ≡ part_at a b k → after ≡ written b there bytes → pair_made a after ≡ written (pair_made a b) k bytes
   written_second e done =
       let p = in_second a b k there e in
-      ap (pair_made a) (done ∙ ap (λ i. written b i bytes) p.same)
-      ∙ back_by a b p.page.ok k bytes (is_ok (write_answer b (k - count a) (length bytes))) p.more refl
-      ∙ ap (λ i. written_as (is_ok (write_answer b i (length bytes)))) (sym p.same)
-      ∙ ap written_as (sym (write_ok a b k b there p.page (length bytes)))
+      cc (back_by a b p.page.ok k bytes (is_ok (write_answer b (k - count a) (length bytes))) p.more refl, write_ok a b k b there p.page (length bytes))

@@ -1,13 +1,13 @@
--- A pair is well-formed where its parts are.
-use Rattle.std.specs.Prelude.{◌≡◌, ℕ, ◌+◌, ◌-◌, ◌<◌, ◌≤◌, true, false, not, [], length, is_ok, ◌==◌, refl}
+-- A pair is well-formed where its parts are. The code cites the proof in `ghost sound`, so it stands with the definitions.
+use Rattle.std.specs.Prelude.{◌≡◌, ℕ, ◌+◌, ◌-◌, ◌<◌, ◌≤◌, true, length, is_ok, refl}
 use Rattle.std.proofs.Common.{sym, ap, ◌∙◌, ⊎_elim, arith}
 use Rattle.std.proofs.lemmas.List.{length-append, get_or_append_left, get_or-append_right}
-use Rattle.std.proofs.lemmas.Bool.{cases_lt, or_parts, not-false, eqb-true, eqb-false, ltb-false}
-use Rattle.fault.specs.declared.refusal.Refusal.TheVariants.{PairParts}
+use Rattle.std.proofs.lemmas.Bool.{cases_lt}
+use Rattle.std.proofs.lemmas.Bool.Decides.{nat_tests}
 use Rattle.image.specs.Pages.{Page, Pages, WellFormed, absent, count, page_at, length_at, extent_of}
-use Rattle.image.proofs.Sound.{made_sound, row_passed}
+use Rattle.image.proofs.Sound.{made_sound}
 use Rattle.image.specs.declared.extent.Extent.{Extent}
-use Rattle.pair.specs.Pairs.{joined, parts_bad, pair_answer, pair_made}
+use Rattle.pair.specs.Pairs.{joined, pair_answer, pair_made}
 
 -- what an accepted check says
 pub record Fit (a b : Extent) : Type 0 where
@@ -17,22 +17,14 @@ pub record Fit (a b : Extent) : Type 0 where
   pub full : a.last ≡ a.size
   pub few : a.count + b.count ≤ 4096
 
-parts_fit : (a b : Extent) → parts_bad a b ≡ false → Fit a b
-parts_fit a b h =
-    let p = or_parts (a.count == 0) _ h in
-    let q = or_parts (b.count == 0) _ p.1 in
-    let r = or_parts (not (a.size == b.size)) _ q.1 in
-    let s = or_parts (not (a.last == a.size)) _ r.1 in
-    record {
-      some = omega (arith, eqb-false a.count 0 p.0);
-      more = omega (arith, eqb-false b.count 0 q.0);
-      same = eqb-true a.size b.size (not-false (a.size == b.size) r.0);
-      full = eqb-true a.last a.size (not-false (a.last == a.size) s.0);
-      few = omega (arith, ltb-false 4096 (a.count + b.count) s.1);
-    }
-
 pub accepted : (a b : Pages) → is_ok (pair_answer a b) ≡ true → Fit (extent_of a) (extent_of b)
-accepted a b h = parts_fit (extent_of a) (extent_of b) (row_passed (parts_bad (extent_of a) (extent_of b)) PairParts 0 [] h)
+accepted a b h = record {
+  some = grind (arith, nat_tests);
+  more = grind (arith, nat_tests);
+  same = grind (arith, nat_tests);
+  full = grind (arith, nat_tests);
+  few = grind (arith, nat_tests);
+}
 
 module _ (a b : Pages) where
   pub joined-count : count (joined a b) ≡ count a + count b
