@@ -1,5 +1,5 @@
 // The two variants of BLAKE2.
-ghost use Rattle.std.specs.Prelude.{◌≡◌, [], ◌∷◌};
+ghost use Rattle.std.specs.Prelude.{◌≡◌, [], ◌∷◌, Some, codes};
 ghost use Rattle.std.specs.Result.{result_ok};
 ghost use Rattle.blake2.specs.Variants.{letter, variant_of};
 ghost use Rattle.blake2.specs.Width.{width_of};
@@ -18,8 +18,10 @@ pub enum Variant {
 pub struct UnknownVariant;
 
 impl fmt::Display for UnknownVariant {
+    ghost output = { λ _. Some (codes "a variant is b or s") };
+
     fn fmt<W: fmt::Write>(&self, f: &mut fmt::Formatter<W>) -> fmt::Result {
-        f.write_str("a variant is b or s")
+        write!(f, "a variant is b or s")
     }
 }
 

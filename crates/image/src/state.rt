@@ -1,6 +1,9 @@
 // What may be done with a page.
-ghost use Rattle.std.specs.Prelude.{◌≡◌};
+ghost use Rattle.std.specs.Prelude.{◌≡◌, ◌++◌, Some, codes, decimal};
 ghost use Rattle.image.specs.Pages.{state_of};
+
+use std::error::Error;
+use std::fmt;
 
 // A locked page can be read, but not written.
 #[derive(Clone, Copy, PartialEq, Eq, Debug)]
@@ -30,6 +33,17 @@ impl PageState {
 // A state byte that stands for no state.
 #[derive(Clone, Copy, PartialEq, Eq, Debug)]
 pub struct StrangeState(pub u8);
+
+impl fmt::Display for StrangeState {
+    ghost output = { λ s. Some (codes "no page state is " ++ decimal s.0) };
+
+    fn fmt<W: fmt::Write>(&self, f: &mut fmt::Formatter<W>) -> fmt::Result {
+        let byte = self.0;
+        write!(f, "no page state is {byte}")
+    }
+}
+
+impl Error for StrangeState {}
 
 // The state byte that a dump of a chip has for a page.
 impl TryFrom<u8> for PageState {
