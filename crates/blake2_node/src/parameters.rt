@@ -25,7 +25,7 @@ fn put(block: &mut Bytes<64>, field: &[u8])
     requires { length block.old + length field.now ≤ 64 }
     ensures { block.new ≡ block.old ++ field.now }
 {
-    let _ = block.append(field);
+    block.append(field).unwrap();
 }
 
 // The parameter block of a node under a label.
