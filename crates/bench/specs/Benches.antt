@@ -15,6 +15,7 @@ bench_rows size q len = on (shape_bad size len) ImageShape 0 ∷ on (nat_lt (pag
 abbrev pub bench_answer : ℕ → ℕ → ℕ → Answer
 bench_answer size q len = unless (bench_rows size q len) tt
 
+-- The state of page k.
 abbrev pub bench_state : ℕ → ℕ → PageState
 bench_state q k = record { readable = true; locked = nat_lt k q }
 

@@ -4,9 +4,10 @@ use Rattle.image.specs.declared.extent.Extent.{Extent}
 use Rattle.image.specs.declared.state.PageState.{PageState}
 use Rattle.image.specs.declared.state.StrangeState.{StrangeState}
 
+-- A page: its bytes, and what may be done with it.
 pub record Page : Type 0 where
   pub bytes : List ℕ
-  pub state : PageState  -- what may be done with it
+  pub state : PageState
 
 pub record Pages : Type 0 where
   pub size : ℕ  -- the page length
