@@ -1,5 +1,5 @@
 -- Reading is the inverse of writing.
-use Rattle.std.proofs.Common.{◌≡◌, ℕ, ◌-◌, not, eqb, List, [], ◌∷◌, ◌++◌, length, drop, Ok, Err, Result, sym, ap, ◌∙◌, append-nil, arith, length-append, length-drop}
+use Rattle.std.proofs.Common.{◌≡◌, ℕ, ◌+◌, ◌-◌, not, List, [], ◌∷◌, ◌++◌, length, Ok, Err, Result, sym, ap, ◌∙◌, append-nil, arith, length-append}
 use denote.Struct.Record.{values_one}
 use Rattle.std.proofs.lemmas.Bool.{ne_eqb}
 use Rattle.std.specs.Coded.{coded_list, coded_ℕ}
@@ -13,7 +13,7 @@ use Rattle.label.specs.contracts.label.Label as label
 use Rattle.label.specs.declared.label.Label.{Label}
 use Rattle.label.specs.Labels.{Parts, text, label_lines, front_answer, read_answer}
 use Rattle.label.specs.Meaning.{parts, meant, label_text, Begins, Exactly}
-use Rattle.label.proofs.Fronts.{front_reads, lines_are_text, text_is_lines, rest_shorter}
+use Rattle.label.proofs.Fronts.{front_reads, lines_are_text, text_is_lines}
 
 -- two labels that say the same are one value
 pub one_label : (l m : Label) → parts l ≡ parts m → l ≡ m
@@ -29,18 +29,12 @@ front_back s {p} {n} h =
     let z : ◌≡◌ {A = Parts × ℕ} (a.0.0, length s - length a.0.1) (p, n) = cc a.2 in
     (a.0.1, a.1 ∙ ap (λ q. Ok (q.0, a.0.1)) z, sym (ap (λ q. q.1) z))
 
-pub read_on : (s : List ℕ) {p : Parts} {n : ℕ} → front_answer s ≡ Ok (p, n) → read_answer s ≡ then (end_answer 10 (drop n s)) (λ _. Ok p)
-read_on s {p} {n} h =
-    let a = front_back s h in
-    let same : length a.0 ≡ length (drop n s) = omega (arith, length-drop n s, rest_shorter s a.1, a.2) in
-    ap (λ m. then m (λ q. then (end_answer 10 q.1) (λ _. Ok q.0))) a.1 ∙ ap (λ k. then (unless (on (not (eqb k 0)) BytesLeft 10 ∷ []) tt) (λ _. Ok p)) same
+pub read_stops : (s : List ℕ) {e : Fault} → label_lines s ≡ Err e → read_answer s ≡ Err e
+read_stops s h = ap (λ m. then m (λ p. then (end_answer 10 p.1) (λ _. Ok p.0))) h
 
-pub read_refused : (s : List ℕ) {e : Fault} → front_answer s ≡ Err e → read_answer s ≡ Err e
-read_refused s {e} h = go (label_lines s) h
-  where
-    go : (m : Result (Parts × List ℕ) Fault) → then {C = Parts × ℕ} m (λ q. Ok (q.0, length s - length q.1)) ≡ Err e → then m (λ q. then (end_answer 10 q.1) (λ _. Ok q.0)) ≡ Err e
-    go (Ok q) i = let z : ◌≡◌ {A = ℕ} 0 1 = cc in absurd (omega arith)
-    go (Err d) i = cc
+pub read_on : (s : List ℕ) (taken : ℕ) {p : Parts} {rest : List ℕ} {m : Result (Unit {0}) Fault} → label_lines s ≡ Ok (p, rest) → taken ≡ 9 → m ≡ end_answer (taken + 1) rest → read_answer s ≡ then m (λ _. Ok p)
+read_on s taken {p} {rest} h e i =
+    ap (λ m. then m (λ p. then (end_answer 10 p.1) (λ _. Ok p.0))) h ∙ ap (λ m. then m (λ _. Ok p)) (ap (λ n. end_answer (n + 1) rest) (sym e) ∙ sym i)
 
 -- what an answer is, from what it says
 

@@ -1,6 +1,7 @@
 -- What the fields of a label may be.
-use Rattle.std.specs.Prelude.{ℕ, ◌*◌, Bool, true, ◌&&◌, ◌||◌, List, [], ◌∷◌, length, codes, ◌==◌}
+use Rattle.std.specs.Prelude.{ℕ, ◌*◌, Bool, ◌&&◌, ◌||◌, List, length, codes, ◌==◌}
 use Rattle.std.specs.Int.{is_in_range}
+use Rattle.std.specs.List.{list_all}
 use Rattle.blake2.specs.Width.{width_of, longest}
 use Rattle.blake2.specs.declared.variant.Variant.{Variant}
 use Rattle.blake2.specs.declared.variant.Variant.TheVariants.{B, S}
@@ -32,8 +33,7 @@ abbrev pub layout_byte : ℕ → Bool
 layout_byte c = is_in_range 65 90 c || (is_in_range 48 57 c || c == 45)
 
 abbrev pub are_layout_bytes : List ℕ → Bool
-are_layout_bytes [] = true
-are_layout_bytes (c ∷ cs) = layout_byte c && are_layout_bytes cs
+are_layout_bytes v = list_all layout_byte v
 
 abbrev pub layout_name : Variant → List ℕ → Bool
 layout_name variant v = is_in_range 1 (salt_length_of variant) (length v) && are_layout_bytes v

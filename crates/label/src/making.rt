@@ -1,5 +1,8 @@
 // Making a label from its parts.
-ghost use Rattle.std.specs.Prelude.{◌≡◌};
+ghost use Rattle.std.specs.Prelude.{◌≡◌, [], ◌∷◌, not};
+ghost use Rattle.fault.specs.Faults.{on, unless};
+ghost use Rattle.fault.specs.declared.refusal.Refusal.TheVariants.{NumberRange};
+ghost use Rattle.lines.specs.Lines.{inside};
 ghost use Rattle.label.specs.Labels.{new_answer};
 ghost use Rattle.label.specs.Meaning.{meant};
 
@@ -7,6 +10,17 @@ use crate::{Label, rules};
 use blake2::Variant;
 use byte_strings::Bytes;
 use fault::{Fault, Refusal};
+use lines::Range;
+
+// Refuses a number outside its range, about the line that it would stand on.
+fn check(range: Range, n: u16, line: usize) -> Result<(), Fault>
+    ensures { result ≡ unless (on (not (inside range n)) NumberRange line ∷ []) tt }
+{
+    if !range.contains(n) {
+        return Err(Fault::new(Refusal::NumberRange, line));
+    }
+    Ok(())
+}
 
 impl Label {
     // The label with these fields. A field that breaks its rule is refused as its line would be: 22 for a number, 21 for salt and layout.
@@ -22,33 +36,19 @@ impl Label {
     ) -> Result<Label, Fault>
         ensures { meant result ≡ new_answer (record { variant = variant; digest = digest; key = key; fanout = fanout; depth = depth; page = page; salt = salt.now; layout = layout.now }) }
     {
-        if !rules::digest_range(variant).contains(u16::from(digest)) {
-            return Err(Fault::new(Refusal::NumberRange, 3));
-        }
-        if !rules::key_range(variant).contains(u16::from(key)) {
-            return Err(Fault::new(Refusal::NumberRange, 4));
-        }
-        if !rules::FANOUT.contains(u16::from(fanout)) {
-            return Err(Fault::new(Refusal::NumberRange, 5));
-        }
-        if !rules::DEPTH.contains(u16::from(depth)) {
-            return Err(Fault::new(Refusal::NumberRange, 6));
-        }
-        if !rules::PAGE.contains(page) {
-            return Err(Fault::new(Refusal::NumberRange, 7));
-        }
+        check(rules::digest_range(variant), u16::from(digest), 3)?;
+        check(rules::key_range(variant), u16::from(key), 4)?;
+        check(rules::FANOUT, u16::from(fanout), 5)?;
+        check(rules::DEPTH, u16::from(depth), 6)?;
+        check(rules::PAGE, page, 7)?;
         if salt.len() != rules::salt_length(variant) {
             return Err(Fault::new(Refusal::LineForm, 8));
         }
-        let Ok(salt) = Bytes::try_from(salt) else {
-            return Err(Fault::new(Refusal::LineForm, 8));
-        };
+        let salt = Bytes::try_from(salt).map_err(|_| Fault::new(Refusal::LineForm, 8))?;
         if !rules::is_layout_name(variant, layout) {
             return Err(Fault::new(Refusal::LineForm, 9));
         }
-        let Ok(layout) = Bytes::try_from(layout) else {
-            return Err(Fault::new(Refusal::LineForm, 9));
-        };
+        let layout = Bytes::try_from(layout).map_err(|_| Fault::new(Refusal::LineForm, 9))?;
         Ok(Label {
             variant,
             digest,

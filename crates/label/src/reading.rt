@@ -1,7 +1,8 @@
 // Reading a label from its text.
-ghost use Rattle.std.specs.Prelude.{◌≡◌, ℕ, true, length, IfOk, Ok};
-ghost use Rattle.lines.specs.Lines.{read_line, Answers};
-ghost use Rattle.label.specs.Labels.{variant_line, read_layout, front_answer, read_answer};
+ghost use Rattle.std.specs.Prelude.{◌≡◌, ℕ, ◌+◌, true, length, IfOk, Ok};
+ghost use Rattle.lines.specs.Lines.{read_line, then, Answers};
+ghost use Rattle.lines.specs.Reader.{value_of, past};
+ghost use Rattle.label.specs.Labels.{variant_line, layout_line, label_lines, front_answer, read_answer};
 ghost use Rattle.label.specs.Meaning.{parts, meant, label_text, Exactly, Begins};
 ghost use Rattle.label.specs.Rules.{layout_name};
 
@@ -9,44 +10,49 @@ use crate::{Label, rules};
 use blake2::Variant;
 use byte_strings::Bytes;
 use fault::{Fault, Refusal};
+use lines::Lines;
 
-fn variant<'a>(text: &'a [u8], line: usize, name: &[u8]) -> Result<(Variant, &'a [u8]), Fault>
-    ensures { Answers result (λ p. (p.0, p.1.now)) (read_line (variant_line line name.now) text.now) }
+// Takes the line with a variant.
+fn variant(lines: &mut Lines<'_>, name: &[u8]) -> Result<Variant, Fault>
+    ensures answer { result ≡ value_of (read_line (variant_line (lines.old.taken + 1) name.now) lines.old.left) }
+    ensures after { lines.new ≡ past name.now lines.old }
 {
-    let (v, rest) = lines::value(text, line, name)?;
-    match v {
-        b"b" => Ok((Variant::B, rest)),
-        b"s" => Ok((Variant::S, rest)),
-        _ => Err(Fault::new(Refusal::LineForm, line)),
+    match lines.value(name)? {
+        b"b" => Ok(Variant::B),
+        b"s" => Ok(Variant::S),
+        _ => Err(lines.fault(Refusal::LineForm)),
     }
 }
 
-fn layout_name(value: &[u8], line: usize, variant: Variant) -> Result<Bytes<16>, Fault>
-    ensures answer { result ≡ read_layout line variant value.now }
+// Takes the line with a layout name.
+fn layout(lines: &mut Lines<'_>, name: &[u8], variant: Variant) -> Result<Bytes<16>, Fault>
+    ensures answer { result ≡ value_of (read_line (layout_line (lines.old.taken + 1) name.now variant) lines.old.left) }
     ensures rules { IfOk result (λ b. layout_name variant b ≡ true) }
+    ensures after { lines.new ≡ past name.now lines.old }
 {
+    let value = lines.value(name)?;
     if !rules::is_layout_name(variant, value) {
-        return Err(Fault::new(Refusal::LineForm, line));
+        return Err(lines.fault(Refusal::LineForm));
     }
-    Bytes::try_from(value).map_err(|_| Fault::new(Refusal::LineForm, line))
+    Bytes::try_from(value).map_err(|_| lines.fault(Refusal::LineForm))
 }
 
-// The label that the first nine lines of a text say, and how many bytes these lines are.
-fn nine_lines(text: &[u8]) -> Result<(Label, usize), Fault>
-    ensures { Answers result (λ p. (parts p.0, p.1)) (front_answer text.now) }
+// Takes the nine lines of a label.
+fn nine_lines(lines: &mut Lines<'_>) -> Result<Label, Fault>
+    requires { lines.old.taken ≡ 0 }
+    ensures answer { label_lines lines.old.left ≡ then (meant result) (λ p. Ok (p, lines.new.left)) }
+    ensures taken { IfOk result (λ _. lines.new.taken ≡ 9) }
 {
-    let rest = lines::fixed(text, 1, b"kind=seal")?;
-    let (variant, rest) = variant(rest, 2, b"variant=")?;
-    let (digest, rest) = lines::number(rest, 3, b"digest=", rules::digest_range(variant))?;
-    let (key, rest) = lines::number(rest, 4, b"keybytes=", rules::key_range(variant))?;
-    let (fanout, rest) = lines::number(rest, 5, b"fanout=", rules::FANOUT)?;
-    let (depth, rest) = lines::number(rest, 6, b"depth=", rules::DEPTH)?;
-    let (page, rest) = lines::number(rest, 7, b"page=", rules::PAGE)?;
-    let (salt, rest) = lines::value(rest, 8, b"salt=")?;
-    let salt = lines::hexadecimal::<16>(salt, 8, rules::salt_length(variant))?;
-    let (layout, rest) = lines::value(rest, 9, b"layout=")?;
-    let layout = layout_name(layout, 9, variant)?;
-    let label = Label {
+    lines.fixed(b"kind=seal")?;
+    let variant = variant(lines, b"variant=")?;
+    let digest = lines.number(b"digest=", rules::digest_range(variant))?;
+    let key = lines.number(b"keybytes=", rules::key_range(variant))?;
+    let fanout = lines.number(b"fanout=", rules::FANOUT)?;
+    let depth = lines.number(b"depth=", rules::DEPTH)?;
+    let page = lines.number(b"page=", rules::PAGE)?;
+    let salt = lines.hexadecimal(b"salt=", rules::salt_length(variant))?;
+    let layout = layout(lines, b"layout=", variant)?;
+    Ok(Label {
         variant,
         digest: digest as u8,
         key: key as u8,
@@ -55,8 +61,7 @@ fn nine_lines(text: &[u8]) -> Result<(Label, usize), Fault>
         page,
         salt,
         layout,
-    };
-    Ok((label, text.len() - rest.len()))
+    })
 }
 
 impl Label {
@@ -65,7 +70,9 @@ impl Label {
         ensures answer { Answers result (λ p. (parts p.0, p.1)) (front_answer text.now) }
         ensures reads_what_is_written { (l : Label) (n : ℕ) → Exactly (result ≡ Ok (l, n)) (Begins text.now (label_text l) × (n ≡ length (label_text l))) }
     {
-        nine_lines(text)
+        let mut lines = Lines::new(text);
+        let label = nine_lines(&mut lines)?;
+        Ok((label, text.len() - lines.bytes_left()))
     }
 
     // The label whose text this is: a text is accepted exactly if a label writes it, and is read as that label.
@@ -73,8 +80,9 @@ impl Label {
         ensures answer { meant result ≡ read_answer text.now }
         ensures reads_what_is_written { (l : Label) → Exactly (result ≡ Ok l) (text.now ≡ label_text l) }
     {
-        let (label, length) = nine_lines(text)?;
-        lines::end(&text[length..], 10)?;
+        let mut lines = Lines::new(text);
+        let label = nine_lines(&mut lines)?;
+        lines.end()?;
         Ok(label)
     }
 }

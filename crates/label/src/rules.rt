@@ -72,16 +72,11 @@ fn is_layout_byte(c: u8) -> bool
 fn are_layout_bytes(name: &[u8]) -> bool
     ensures { result ≡ are_layout_bytes name.now }
 {
-    for c in name {
-        if !is_layout_byte(*c) {
-            return false;
-        }
-    }
-    true
+    name.iter().all(|c| is_layout_byte(*c))
 }
 
 pub(crate) fn is_layout_name(variant: Variant, name: &[u8]) -> bool
     ensures { result ≡ layout_name variant name.now }
 {
-    name.len() >= 1 && name.len() <= salt_length(variant) && are_layout_bytes(name)
+    !name.is_empty() && name.len() <= salt_length(variant) && are_layout_bytes(name)
 }

@@ -1,5 +1,5 @@
 // Writing the text of a label.
-ghost use Rattle.std.specs.Prelude.{◌≡◌, ◌+◌, ◌*◌, ◌<◌, ◌≤◌, [], ◌++◌, length, decimal};
+ghost use Rattle.std.specs.Prelude.{◌≡◌, ◌+◌, ◌<◌, ◌≤◌, [], ◌++◌, length, decimal};
 ghost use Rattle.byte_strings.specs.Hexadecimal.{hex};
 ghost use Rattle.lines.specs.Lines.{line_then};
 ghost use Rattle.label.specs.Labels.{write_answer, written};
@@ -12,37 +12,36 @@ use fault::{Fault, Refusal};
 // Room for the nine lines, with five digits to a number.
 const ROOM: usize = 146;
 
-// Adds a line with this value.
+// Adds a line.
 fn put(out: &mut Bytes<ROOM>, name: &[u8], value: &[u8])
     requires { length out.old + length name.now + length value.now < 146 }
     ensures length { length out.new ≤ length out.old + length name.now + length value.now + 1 }
     ensures bytes { out.new ≡ out.old ++ line_then name.now value.now [] }
 {
-    let _ = out.append(name);
-    let _ = out.append(value);
-    let _ = out.append(b"\n");
+    out.append(name).unwrap();
+    out.append(value).unwrap();
+    out.append(b"\n").unwrap();
 }
 
-// Adds a line with a number.
-fn put_number(out: &mut Bytes<ROOM>, name: &[u8], n: u16)
-    requires { length out.old + length name.now + 5 < 146 }
-    ensures length { length out.new ≤ length out.old + length name.now + 6 }
-    ensures bytes { out.new ≡ out.old ++ line_then name.now (decimal n) [] }
+// A number in decimal digits.
+fn decimal(n: u16) -> Bytes<5>
+    ensures digits { result ≡ decimal n }
+    ensures length { length result ≤ 5 }
 {
-    let _ = out.append(name);
-    let _ = out.append_decimal(n);
-    let _ = out.append(b"\n");
+    let mut digits = Bytes::new();
+    digits.append_decimal(n).unwrap();
+    digits
 }
 
-// Adds a line with bytes in hexadecimal digits.
-fn put_hex(out: &mut Bytes<ROOM>, name: &[u8], bytes: &[u8])
-    requires { length out.old + length name.now + 2 * length bytes.now < 146 }
-    ensures length { length out.new ≤ length out.old + length name.now + 2 * length bytes.now + 1 }
-    ensures bytes { out.new ≡ out.old ++ line_then name.now (hex bytes.now) [] }
+// Up to 16 bytes in hexadecimal digits.
+fn hexadecimal(bytes: &[u8]) -> Bytes<32>
+    requires { length bytes.now ≤ 16 }
+    ensures digits { result ≡ hex bytes.now }
+    ensures length { length result ≤ 32 }
 {
-    let _ = out.append(name);
-    let _ = out.append_hex(bytes);
-    let _ = out.append(b"\n");
+    let mut digits = Bytes::new();
+    digits.append_hex(bytes).unwrap();
+    digits
 }
 
 impl Label {
@@ -53,12 +52,32 @@ impl Label {
         let mut out = Bytes::new();
         put(&mut out, b"kind=seal", b"");
         put(&mut out, b"variant=", &[rules::letter(self.variant)]);
-        put_number(&mut out, b"digest=", u16::from(self.digest));
-        put_number(&mut out, b"keybytes=", u16::from(self.key));
-        put_number(&mut out, b"fanout=", u16::from(self.fanout));
-        put_number(&mut out, b"depth=", u16::from(self.depth));
-        put_number(&mut out, b"page=", self.page);
-        put_hex(&mut out, b"salt=", self.salt.as_slice());
+        put(
+            &mut out,
+            b"digest=",
+            decimal(u16::from(self.digest)).as_slice(),
+        );
+        put(
+            &mut out,
+            b"keybytes=",
+            decimal(u16::from(self.key)).as_slice(),
+        );
+        put(
+            &mut out,
+            b"fanout=",
+            decimal(u16::from(self.fanout)).as_slice(),
+        );
+        put(
+            &mut out,
+            b"depth=",
+            decimal(u16::from(self.depth)).as_slice(),
+        );
+        put(&mut out, b"page=", decimal(self.page).as_slice());
+        put(
+            &mut out,
+            b"salt=",
+            hexadecimal(self.salt.as_slice()).as_slice(),
+        );
         put(&mut out, b"layout=", self.layout.as_slice());
         out
     }

@@ -13,10 +13,8 @@ mod tests {
 
     // What a text is refused with.
     fn refusal(text: &[u8]) -> Option<(Refusal, usize)> {
-        match Label::read(text) {
-            Ok(_) => None,
-            Err(fault) => Some((fault.number, fault.place)),
-        }
+        let fault = Label::read(text).err()?;
+        Some((fault.number, fault.place))
     }
 
     #[test]
@@ -113,13 +111,13 @@ mod tests {
     #[test]
     fn a_changed_byte_is_refused_or_spells_another_label(rt: HostRuntime) -> Result<(), Fail> {
         let mut accepted = 0u32;
-        for i in 0..123 {
+        for (i, old) in EXAMPLE.iter().enumerate() {
             for c in 0..=255u8 {
-                let mut text = *EXAMPLE;
-                text[i] = c;
-                if c == EXAMPLE[i] {
+                if c == *old {
                     continue;
                 }
+                let mut text = *EXAMPLE;
+                text[i] = c;
                 if let Ok(label) = Label::read(&text) {
                     let mut out = [0; 123];
                     assert_eq!(rt; label.write(&mut out)?, 123);

@@ -1,29 +1,43 @@
 -- One line: where its name and its value end.
-use Rattle.std.proofs.Common.{◌≡◌, ℕ, zero, suc, ◌<◌, Bool, true, false, cond, eqb, List, [], ◌∷◌, ◌++◌, length, get_or, take, drop, Some, None, Ok, Err, Option, Result, sym, refl, ap, ◌∙◌, ⊎_elim, arith}
-use Rattle.std.proofs.lemmas.Bool.{eq-eqb, ne_eqb, eqb-true, cases_eq}
-use Rattle.std.specs.List.{AllByRecursion as All}
+use Rattle.std.proofs.Common.{◌≡◌, ℕ, zero, suc, ◌+◌, ◌<◌, Bool, true, false, cond, eqb, List, [], ◌∷◌, ◌++◌, length, get_or, take, drop, Some, None, Ok, Err, Option, Result, sym, refl, ap, ◌∙◌, ⊎_elim, arith, length-append}
+use Rattle.std.proofs.lemmas.Bool.{eq-eqb, ne_eqb, eqb-true, eqb-false, cases_eq}
+use Rattle.std.proofs.lemmas.Iterator.Adapters.{position_from-zero}
+use Rattle.std.proofs.lemmas.List.Quantifiers.{position-Some}
+use Rattle.std.specs.Option.{ok_or}
+use Rattle.std.specs.List.{AllByRecursion as All, position, position_from}
 use Rattle.fault.specs.Faults.{fault}
-use Rattle.fault.specs.declared.fault.Fault.{Fault}
 use Rattle.fault.specs.declared.refusal.Refusal.TheVariants.{LineForm}
 use Rattle.lines.specs.Lines.{line_then, after, ahead, cut, cut_after, formed, valued, Line, then, read_line}
 
 -- the name, and the line feed
 
-pub cut_at : (s : List ℕ) (n : ℕ) → n < length s → ((k : ℕ) → k < n → get_or s k 0 ≡ 10 → ⊥) → get_or s n 0 ≡ 10 → cut s ≡ Some (take n s, drop (suc n) s)
-cut_at [] n lt b e = absurd (omega arith)
-cut_at (c ∷ s) zero lt b e = rw (eq-eqb c 10 e)
-cut_at (c ∷ s) (suc n) lt b e =
-    rw (ne_eqb c 10 (b 0 (omega arith)), cut_at s n (omega arith) (λ k l. b (suc k) (omega arith)) e)
+pub cut_at : (s : List ℕ) (n : ℕ) → position (λ b. eqb b 10) s ≡ Some n → cut s ≡ Some (take n s, drop (suc n) s)
+cut_at s n e = let p = position-Some (λ b. eqb b 10) s n 0 e in go s n p.0 (eqb-true _ _ p.1) (λ k l. eqb-false _ _ (p.2 k l))
+  where
+    go : (s : List ℕ) (n : ℕ) → n < length s → get_or s n 0 ≡ 10 → ((k : ℕ) → k < n → get_or s k 0 ≡ 10 → ⊥) → cut s ≡ Some (take n s, drop (suc n) s)
+    go [] n lt e b = absurd (omega arith)
+    go (c ∷ s) zero lt e b = rw (eq-eqb c 10 e)
+    go (c ∷ s) (suc n) lt e b = rw (ne_eqb c 10 (b 0 (omega arith)), go s n (omega arith) e (λ k l. b (suc k) (omega arith)))
 
-pub cut_none : (s : List ℕ) → ((k : ℕ) → k < length s → get_or s k 0 ≡ 10 → ⊥) → cut s ≡ None
-cut_none [] b = refl
-cut_none (c ∷ s) b = rw (ne_eqb c 10 (b 0 (omega arith)), cut_none s (λ k l. b (suc k) (omega arith)))
+pub cut_none : (s : List ℕ) → position (λ b. eqb b 10) s ≡ None → cut s ≡ None
+cut_none s e = from 0 s (sym (position_from-zero (λ b. eqb b 10) s) ∙ e)
+  where
+    from : (i : ℕ) (s : List ℕ) → position_from (λ b. eqb b 10) i s ≡ None → cut s ≡ None
+    from i [] h = refl
+    from i (c ∷ s) h = go (from (i + 1) s) (eqb c 10) h
+      where
+        go : (position_from (λ b. eqb b 10) (i + 1) s ≡ None → cut s ≡ None) → (t : Bool) → cond t (Some i) (position_from (λ b. eqb b 10) (i + 1) s) ≡ None → cond t (Some ([], s)) (ahead c (cut s)) ≡ None
+        go ih true h = cc
+        go ih false h = rw (ih h)
 
-after_some : (name s : List ℕ) → after name (name ++ s) ≡ Some s
-after_some [] s = refl
-after_some (c ∷ name) s = rw (eq-eqb c c refl) (after_some name s)
+pub after_some : (name s t : List ℕ) → s ≡ name ++ t → after name s ≡ Some t
+after_some name s t e = ap (after name) e ∙ go name
+  where
+    go : (name : List ℕ) → after name (name ++ t) ≡ Some t
+    go [] = refl
+    go (c ∷ name) = rw (eq-eqb c c refl) (go name)
 
-after_none : (name s : List ℕ) → ((rest : List ℕ) → s ≡ name ++ rest → ⊥) → after name s ≡ None
+pub after_none : (name s : List ℕ) → ((rest : List ℕ) → s ≡ name ++ rest → ⊥) → after name s ≡ None
 after_none [] s never = absurd (never s refl)
 after_none (c ∷ name) [] never = refl
 after_none (c ∷ name) (d ∷ s) never =
@@ -32,13 +46,13 @@ after_none (c ∷ name) (d ∷ s) never =
     (λ ne. rw (ne_eqb c d ne))
     (cases_eq c d)
 
-pub valued_cut : (n : ℕ) (name s t : List ℕ) → s ≡ name ++ t → valued n name s ≡ formed n (cut t)
+pub valued_some : (n : ℕ) (name s : List ℕ) {p : List ℕ × List ℕ} → cut_after (after name s) ≡ Some p → valued n name s ≡ Ok p
 unfolding valued
-valued_cut n name s t e = ap (λ x. formed n (cut_after (after name x))) e ∙ ap (λ x. formed n (cut_after x)) (after_some name t)
+valued_some n name s e = ap (formed n) e
 
-pub valued_none : (n : ℕ) (name s : List ℕ) → ((rest : List ℕ) → s ≡ name ++ rest → ⊥) → valued n name s ≡ Err (fault LineForm n)
+pub valued_none : (n : ℕ) (name s : List ℕ) → cut_after (after name s) ≡ None → valued n name s ≡ Err (fault LineForm n)
 unfolding valued
-valued_none n name s never = ap (λ x. formed n (cut_after x)) (after_none name s never)
+valued_none n name s e = ap (formed n) e
 
 -- from an accepted answer back to what was read
 
@@ -47,6 +61,10 @@ never_ok h = let z : ◌≡◌ {A = ℕ} 0 1 = cc in omega arith
 
 pub never_some : {A : Type 0} {x : A} → None ≡ Some x → ⊥
 never_some h = let z : ◌≡◌ {A = ℕ} 0 1 = cc in omega arith
+
+pub err_from_ok_or : {A E : Type 0} (o : Option A) (d e : E) → Err e ≡ ok_or o d → e ≡ d
+err_from_ok_or None d e h = cc
+err_from_ok_or (Some x) d e h = absurd (never_ok h)
 
 pub then_back : {A C E : Type 0} (m : Result A E) (f : A → Result C E) {y : C} → then m f ≡ Ok y → (x : A) × (m ≡ Ok x) × (f x ≡ Ok y)
 then_back (Ok x) f h = (x, refl, h)
@@ -89,6 +107,10 @@ valued_back n name s v rest h = go (after name s) refl (formed_back n (cut_after
     go None e i = absurd (never_some i)
     go (Some t) e i = after_back name s t e ∙ ap (λ l. name ++ l) (cut_back t v rest i)
 
+pub rest_shorter : (n : ℕ) (name s : List ℕ) {v rest : List ℕ} → valued n name s ≡ Ok (v, rest) → length rest < length s
+rest_shorter n name s {v} {rest} e =
+    omega (arith, ap length (valued_back n name s v rest e), length-append name (v ++ (10 ∷ rest)), length-append v (10 ∷ rest))
+
 -- an accepted line is its name, a value that is read, and a line feed
 pub read_line_back : {A : Type 0} (l : Line A) (s : List ℕ) {x : A} {rest : List ℕ} → read_line l s ≡ Ok (x, rest) → (v : List ℕ) × (s ≡ line_then l.name v rest) × (l.read v ≡ Ok x)
 read_line_back {A} l s {x} {rest} h =
@@ -111,17 +133,4 @@ cut_line (c ∷ v) rest h = rw (ne_eqb c 10 h.0, cut_line v rest h.1)
 -- a line with a value that is read is accepted
 pub read_line_line : {A : Type 0} (l : Line A) (v rest : List ℕ) {x : A} → Clean v → l.read v ≡ Ok x → read_line l (line_then l.name v rest) ≡ Ok (x, rest)
 read_line_line l v rest h e =
-    ap (λ m. then m (λ p. then (l.read p.0) (λ x. Ok (x, p.1)))) (valued_cut l.number l.name (line_then l.name v rest) (v ++ (10 ∷ rest)) refl ∙ ap (formed l.number) (cut_line v rest h)) ∙ ap (λ m. then m (λ x. Ok (x, rest))) e
-
--- a line whose value is taken first, and then read
-
-pub value_read : {A : Type 0} (l : Line A) (s : List ℕ) {v rest : List ℕ} {x : A} → valued l.number l.name s ≡ Ok (v, rest) → l.read v ≡ Ok x → read_line l s ≡ Ok (x, rest)
-value_read l s {v} {rest} e h =
-    ap (λ m. then m (λ p. then (l.read p.0) (λ x. Ok (x, p.1)))) e ∙ ap (λ m. then m (λ x. Ok (x, rest))) h
-
-pub value_refused : {A : Type 0} (l : Line A) (s : List ℕ) {v rest : List ℕ} {d : Fault} → valued l.number l.name s ≡ Ok (v, rest) → l.read v ≡ Err d → read_line l s ≡ Err d
-value_refused l s {v} {rest} e h =
-    ap (λ m. then m (λ p. then (l.read p.0) (λ x. Ok (x, p.1)))) e ∙ ap (λ m. then m (λ x. Ok (x, rest))) h
-
-pub value_missing : {A : Type 0} (l : Line A) (s : List ℕ) {d : Fault} → valued l.number l.name s ≡ Err d → read_line l s ≡ Err d
-value_missing l s e = ap (λ m. then m (λ p. then (l.read p.0) (λ x. Ok (x, p.1)))) e
+    ap (λ m. then m (λ p. then (l.read p.0) (λ x. Ok (x, p.1)))) (valued_some l.number l.name (line_then l.name v rest) (ap cut_after (after_some l.name _ (v ++ (10 ∷ rest)) refl) ∙ cut_line v rest h)) ∙ ap (λ m. then m (λ x. Ok (x, rest))) e

@@ -24,14 +24,6 @@ as_steps {C} (line {A} l next) done s = go (λ p. as_steps (next p.0) (λ q. don
     go ih (Ok p) = regroup (read_lines (next p.0) p.1) (λ q. ((p.0, q.0), q.1)) done ∙ ih p
     go ih (Err e) = refl
 
--- a step is accepted, and the next begins
-pub accepted : {A C E : Type 0} {y : Result C E} {m : Result A E} {x : A} (f : A → Result C E) → m ≡ Ok x → y ≡ then m f → y ≡ f x
-accepted f e at = at ∙ ap (λ m. then m f) e
-
--- a step is refused
-pub refused : {A C E : Type 0} {y : Result C E} {m : Result A E} {d : E} (f : A → Result C E) → m ≡ Err d → y ≡ then m f → y ≡ Err d
-refused f e at = at ∙ ap (λ m. then m f) e
-
 -- every line of the format is faithful
 abbrev pub AllFaithful : Format → Type 0
 AllFaithful end = Unit {0}

@@ -1,3 +1,4 @@
 pub mod Codecs
 pub mod Cuts
 pub mod Formats
+pub mod Readers

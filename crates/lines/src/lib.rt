@@ -1,8 +1,8 @@
-// Texts made of named lines: each line is its name, a value and a line feed. A reader takes one line off the front of a text.
+// Texts made of named lines: each line is its name, a value and a line feed.
 #![tactic(auto)]
 
-mod lines;
+pub mod lines;
 pub mod range;
 
-pub use lines::{end, fixed, hexadecimal, number, value};
+pub use lines::Lines;
 pub use range::Range;

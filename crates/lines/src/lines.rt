@@ -1,91 +1,140 @@
-// The lines of a text, each taken off its front. A reader is told the number of its line, for the refusal.
-ghost use Rattle.std.specs.Prelude.{◌≡◌, ◌≤◌, length, IfOk, Some, None, MatchOption};
-ghost use Rattle.lines.specs.Lines.{cut, valued, fixed_line, number_line, read_bytes, read_line, Answers, end_answer};
+// A reader that takes named lines off the front of a text, one after another.
+ghost use Rattle.std.specs.Prelude.{◌≡◌, ◌==◌, position, ◌+◌, ◌≤◌, length, IfOk, option_map};
+ghost use Rattle.fault.specs.Faults.{fault};
+ghost use Rattle.lines.specs.Lines.{after, cut, cut_after, valued, fixed_line, number_line, bytes_line, read_line, Answers, end_answer};
+ghost use Rattle.lines.specs.Reader.{value_of, past};
 
 use crate::Range;
 use byte_strings::Bytes;
 use fault::{Fault, Refusal};
+use std::marker::Model;
+
+// What is left of the text, and how many lines were taken off it.
+#[derive(Debug, Drop)]
+pub struct Lines<'a> {
+    left: &'a [u8],
+    taken: usize,
+}
+
+impl<'a> Model for Lines<'a> {
+    ghost use Rattle.std.specs.Prelude.{◌+◌, ◌^◌, ◌<◌, length};
+    ghost use Rattle.lines.specs.Reader.{Reader};
+
+    ghost Value = { Reader };
+
+    ghost view = { λ r. record { taken = r.taken; left = r.left.now } };
+
+    ghost invariant = { λ r. r.taken + length r.left.now < 2 ^ 63 };
+}
+
+impl<'a> Lines<'a> {
+    pub fn new(text: &'a [u8]) -> Lines<'a>
+        ensures { result ≡ record { taken = 0; left = text.now } }
+    {
+        Lines {
+            left: text,
+            taken: 0,
+        }
+    }
+
+    // How many bytes are left.
+    pub fn bytes_left(&self) -> usize
+        ensures { result ≡ length self.now.left }
+    {
+        self.left.len()
+    }
+
+    // A refusal of the line that was taken last.
+    pub fn fault(&self, refusal: Refusal) -> Fault
+        ensures { result ≡ fault refusal self.now.taken }
+    {
+        Fault::new(refusal, self.taken)
+    }
+
+    // Takes a line, and gives what stands after its name. A line with another name, or without a line feed, stays.
+    pub fn value(&mut self, name: &[u8]) -> Result<&'a [u8], Fault>
+        ensures answer { Answers result (λ v. v.now) (value_of (valued (self.old.taken + 1) name.now self.old.left)) }
+        ensures after { self.new ≡ past name.now self.old }
+    {
+        let missing = Fault::new(Refusal::LineForm, self.taken + 1);
+        let (value, rest) = first_line(self.left, name).ok_or(missing)?;
+        self.left = rest;
+        self.taken += 1;
+        Ok(value)
+    }
+
+    // Takes a line that has nothing after its name.
+    pub fn fixed(&mut self, name: &[u8]) -> Result<(), Fault>
+        ensures answer { result ≡ value_of (read_line (fixed_line (self.old.taken + 1) name.now) self.old.left) }
+        ensures after { self.new ≡ past name.now self.old }
+    {
+        if !self.value(name)?.is_empty() {
+            return Err(self.fault(Refusal::LineForm));
+        }
+        Ok(())
+    }
+
+    // Takes a line with a number of the range.
+    pub fn number(&mut self, name: &[u8], range: Range) -> Result<u16, Fault>
+        ensures answer { result ≡ value_of (read_line (number_line (self.old.taken + 1) name.now range) self.old.left) }
+        ensures range { IfOk result (λ n. (range.low ≤ n) × (n ≤ range.high)) }
+        ensures after { self.new ≡ past name.now self.old }
+    {
+        let value = self.value(name)?;
+        let n = byte_strings::number(value).ok_or(self.fault(Refusal::LineForm))?;
+        if !range.contains(n) {
+            return Err(self.fault(Refusal::NumberRange));
+        }
+        Ok(n)
+    }
+
+    // Takes a line with the hexadecimal digits of `size` bytes.
+    pub fn hexadecimal<const N: usize>(
+        &mut self,
+        name: &[u8],
+        size: usize,
+    ) -> Result<Bytes<N>, Fault>
+        ensures answer { result ≡ value_of (read_line (bytes_line (self.old.taken + 1) name.now N size) self.old.left) }
+        ensures size { IfOk result (λ b. length b ≡ size) }
+        ensures after { self.new ≡ past name.now self.old }
+    {
+        let value = self.value(name)?;
+        let bytes = Bytes::from_hex(value).ok_or(self.fault(Refusal::LineForm))?;
+        if bytes.len() != size {
+            return Err(self.fault(Refusal::LineForm));
+        }
+        Ok(bytes)
+    }
+
+    // Refuses bytes that are left, as the line that would begin with them.
+    pub fn end(&self) -> Result<(), Fault>
+        ensures { result ≡ end_answer (self.now.taken + 1) self.now.left }
+    {
+        if !self.left.is_empty() {
+            return Err(Fault::new(Refusal::BytesLeft, self.taken + 1));
+        }
+        Ok(())
+    }
+}
+
+// What stands after the name on the first line of a text, and what follows that line.
+fn first_line<'a>(text: &'a [u8], name: &[u8]) -> Option<(&'a [u8], &'a [u8])>
+    ensures { option_map (λ p. (p.0.now, p.1.now)) result ≡ cut_after (after name.now text.now) }
+{
+    cut_line(text.strip_prefix(name)?)
+}
 
 // The bytes before the first line feed, and those after it.
 fn cut_line(text: &[u8]) -> Option<(&[u8], &[u8])>
-    ensures { MatchOption result (cut text.now ≡ None) (λ p. cut text.now ≡ Some (p.0.now, p.1.now)) }
+    ensures { option_map (λ p. (p.0.now, p.1.now)) result ≡ cut text.now }
 {
-    for (i, b) in text.iter().enumerate() {
-        if *b == b'\n' {
-            return Some((&text[0..i], &text[i + 1..]));
-        }
-    }
-    None
+    let at = line_feed(text)?;
+    Some((&text[..at], &text[at + 1..]))
 }
 
-// What stands after the name on the first line, and what follows that line.
-pub fn value<'a>(text: &'a [u8], line: usize, name: &[u8]) -> Result<(&'a [u8], &'a [u8]), Fault>
-    ensures { Answers result (λ p. (p.0.now, p.1.now)) (valued line name.now text.now) }
+// Where the first line feed is.
+fn line_feed(text: &[u8]) -> Option<usize>
+    ensures { result ≡ position (λ b. b == 10) text.now }
 {
-    let Some(after) = text.strip_prefix(name) else {
-        return Err(Fault::new(Refusal::LineForm, line));
-    };
-    let Some((v, rest)) = cut_line(after) else {
-        return Err(Fault::new(Refusal::LineForm, line));
-    };
-    Ok((v, rest))
-}
-
-// A line that has nothing after its name; what follows it.
-pub fn fixed<'a>(text: &'a [u8], line: usize, name: &[u8]) -> Result<&'a [u8], Fault>
-    ensures { Answers result (λ rest. (tt, rest.now)) (read_line (fixed_line line name.now) text.now) }
-{
-    let (v, rest) = value(text, line, name)?;
-    if v.len() != 0 {
-        return Err(Fault::new(Refusal::LineForm, line));
-    }
-    Ok(rest)
-}
-
-// A line with a number of the range, and what follows it.
-pub fn number<'a>(
-    text: &'a [u8],
-    line: usize,
-    name: &[u8],
-    range: Range,
-) -> Result<(u16, &'a [u8]), Fault>
-    ensures answer { Answers result (λ p. (p.0, p.1.now)) (read_line (number_line line name.now range) text.now) }
-    ensures range { IfOk result (λ p. (range.low ≤ p.0) × (p.0 ≤ range.high)) }
-{
-    let (v, rest) = value(text, line, name)?;
-    let Some(n) = byte_strings::number(v) else {
-        return Err(Fault::new(Refusal::LineForm, line));
-    };
-    if !range.contains(n) {
-        return Err(Fault::new(Refusal::NumberRange, line));
-    }
-    Ok((n, rest))
-}
-
-// The `size` bytes whose hexadecimal digits are the value of a line. It takes the value from `value`, since one answer cannot hold the bytes and the borrowed rest.
-pub fn hexadecimal<const N: usize>(
-    value: &[u8],
-    line: usize,
-    size: usize,
-) -> Result<Bytes<N>, Fault>
-    ensures answer { result ≡ read_bytes line N size value.now }
-    ensures size { IfOk result (λ b. length b ≡ size) }
-{
-    let Some(bytes) = Bytes::from_hex(value) else {
-        return Err(Fault::new(Refusal::LineForm, line));
-    };
-    if bytes.len() != size {
-        return Err(Fault::new(Refusal::LineForm, line));
-    }
-    Ok(bytes)
-}
-
-// Refuses a text that has bytes left; the line with this number would begin with them.
-pub fn end(text: &[u8], line: usize) -> Result<(), Fault>
-    ensures { result ≡ end_answer line text.now }
-{
-    if text.len() != 0 {
-        return Err(Fault::new(Refusal::BytesLeft, line));
-    }
-    Ok(())
+    text.iter().position(|b| *b == b'\n')
 }
