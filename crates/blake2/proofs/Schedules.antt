@@ -1,5 +1,6 @@
 -- The schedule's rule: one test over the whole table, and what it says of each row and entry.
-use Rattle.std.proofs.Common.{◌≡◌, ℕ, zero, suc, ◌<◌, true, eqb, ltb, List, [], ◌∷◌, length, get_or, refl, ap, ◌∙◌, ⊎_elim, le_of_suc-le-suc, not-suc-le-zero, arith}
+use Rattle.std.proofs.Common.{◌≡◌, ℕ, zero, suc, ◌<◌, ◌≤◌, true, eqb, ltb, List, [], ◌∷◌, length, get_or, take, refl, ap, ◌∙◌, ⊎_elim, le_of_suc-le-suc, not-suc-le-zero, arith}
+use Rattle.std.proofs.lemmas.List.{get_or-take, length-take-le}
 use Rattle.std.proofs.lemmas.Bool.{and_parts, cases_eq, eqb-true, ltb-true}
 use Rattle.blake2.specs.Schedule.{below, once, count, is_row, all_rows, sigma}
 
@@ -36,3 +37,11 @@ schedule_passes = refl
 
 pub row_is : (i : ℕ) → i < 12 → is_row (get_or sigma i []) ≡ true
 row_is i h = row_at sigma schedule_passes i h
+
+-- the first rows of the schedule are rows of it
+pub length-rows : (n : ℕ) (rows : List (List ℕ)) → rows ≡ take n sigma → n ≤ 12 → length rows ≡ n
+length-rows n rows first few = ap length first ∙ length-take-le n sigma few
+
+pub row_of : (n i : ℕ) (rows : List (List ℕ)) → rows ≡ take n sigma → n ≤ 12 → i < length rows → get_or rows i [] ≡ get_or sigma i []
+row_of n i rows first few inside =
+    ap (λ xs. get_or xs i []) first ∙ get_or-take n sigma i [] (omega (arith, length-rows n rows first few))

@@ -6,8 +6,9 @@ mod compression;
 mod schedule;
 pub mod variant;
 pub mod word;
+pub mod words;
 
-pub use compression::compress;
 pub use schedule::schedule_holds_each_word_once;
 pub use variant::Variant;
 pub use word::Word;
+pub use words::Words;

@@ -1,5 +1,5 @@
 // The message schedule: which message word goes where in a round.
-ghost use Rattle.std.specs.Prelude.{◌≡◌, ℕ, ◌<◌, true, [], slice_index, slice_index_or};
+ghost use Rattle.std.specs.Prelude.{◌≡◌, ℕ, ◌<◌, ◌≤◌, true, [], take, slice_index, slice_index_or};
 ghost use Rattle.blake2.specs.Schedule.{sigma, count, is_row};
 
 static SIGMA: [[u8; 16]; 12] = [
@@ -17,22 +17,30 @@ static SIGMA: [[u8; 16]; 12] = [
     [14, 10, 4, 8, 9, 15, 13, 6, 1, 12, 0, 2, 11, 7, 5, 3],
 ];
 
-// The row of a round.
-pub(crate) fn row(i: usize) -> &'static [u8; 16]
-    requires { i < 12 }
-    ensures value { result.now ≡ slice_index_or sigma i [] }
-    ensures rule { is_row result.now ≡ true }
-{
-    &SIGMA[i]
+// A row of the schedule: it holds each of 0 to 15 once.
+#[derive(Clone, Copy)]
+pub(crate) struct Row {
+    pub(crate) entries: &'static [u8; 16],
+    ghost rule: { is_row entries.now ≡ true },
 }
 
-// An entry of a row, as an index into the message words.
-pub(crate) fn entry(row: &[u8; 16], k: usize) -> usize
-    requires { (k < 16) × (is_row row.now ≡ true) }
-    ensures value { result ≡ slice_index row.now k }
-    ensures bound { result < 16 }
+impl Row {
+    // An entry, as an index into the message words.
+    pub(crate) fn entry(self, k: usize) -> usize
+        requires { k < 16 }
+        ensures value { result ≡ slice_index self.entries.now k }
+        ensures bound { result < 16 }
+    {
+        self.entries[k] as usize
+    }
+}
+
+// The first rows.
+pub(crate) fn rows(n: usize) -> &'static [[u8; 16]]
+    requires { n ≤ 12 }
+    ensures { result.now ≡ take n sigma }
 {
-    row[k] as usize
+    &SIGMA[..n]
 }
 
 // The rule of the schedule, at each row i and each k: the number k stands in the row once, and the row's entry at k is a word's number.

@@ -1,40 +1,41 @@
 // The machine words that BLAKE2 works on.
-ghost use Rattle.std.specs.Prelude.{◌≡◌, ℕ, ◌+◌, ◌/◌, ◌%◌, ◌^◌, ◌<◌, ◌≤◌, map, take, bit_xor};
+ghost use Rattle.std.specs.Prelude.{◌≡◌, ℕ, ◌+◌, ◌/◌, ◌%◌, ◌^◌, ◌<◌, ◌≤◌, List, [], ◌∷◌, map, take, bit_xor};
 ghost use Rattle.blake2.specs.Bytes.{le, le_bytes, pad};
 ghost use Rattle.blake2.specs.Compression.{rotr, mask};
 ghost use Rattle.blake2.specs.Width.{Width, blake2b, blake2s, Small};
 ghost use Rattle.std.proofs.Common.{rules};
 
+use std::ops::BitXor;
+
 // A word, by its value, and what the standard fixes for its width.
-pub trait Word: Copy {
+pub trait Word: Copy + BitXor<Self, Output = Self> {
     ghost width: { Width };
 
     ghost value: { Self → ℕ };
 
-    fn size() -> usize
-        ensures { (result ≡ width.size) × ((0 < result) × (result ≤ 8)) };
+    // The bytes of a word.
+    const SIZE: usize;
 
-    fn rounds() -> usize
-        ensures { (result ≡ width.rounds) × (result ≤ 12) };
+    ghost SIZE: { ℕ };
 
-    fn iv() -> [Self; 8]
-        ensures { map value result ≡ width.iv };
+    // The rounds of a compression.
+    const ROUNDS: usize;
+
+    ghost ROUNDS: { ℕ };
+
+    // The initial value.
+    const IV: [Self; 8];
+
+    ghost IV: { List Self };
 
     // The four rotations of G.
-    fn r1() -> u32
-        ensures { (result ≡ width.r1) × (result < width.bits) };
+    const ROTATIONS: [u32; 4];
 
-    fn r2() -> u32
-        ensures { (result ≡ width.r2) × (result < width.bits) };
+    ghost ROTATIONS: { List ℕ };
 
-    fn r3() -> u32
-        ensures { (result ≡ width.r3) × (result < width.bits) };
+    const ZERO: Self;
 
-    fn r4() -> u32
-        ensures { (result ≡ width.r4) × (result < width.bits) };
-
-    fn zero() -> Self
-        ensures { value result ≡ 0 };
+    ghost ZERO: { Self };
 
     // All bits, or none.
     fn mask(on: bool) -> Self
@@ -56,19 +57,35 @@ pub trait Word: Copy {
     fn bytes(self) -> [u8; 8]
         ensures { result ≡ pad 8 (le_bytes width.size (value self)) };
 
-    // The sum, modulo 2 ^ bits.
+    // The sum, modulo 2 ^ bits. It and the rotation have one body for both words: std has no trait for them, and that of `num_traits` gives integers, where the standard has natural numbers.
     fn plus(self, other: Self) -> Self
         ensures { value result ≡ (value self + value other) % 2 ^ width.bits };
-
-    fn xor(self, other: Self) -> Self
-        ensures { value result ≡ bit_xor (value self) (value other) };
 
     // Rotated to the right.
     fn right(self, by: u32) -> Self
         ensures { value result ≡ rotr width (by % width.bits) (value self) };
 
+    // The constants are those of the width.
+    ghost size_is: { SIZE ≡ width.size };
+
+    ghost rounds_is: { (ROUNDS ≡ width.rounds) × (ROUNDS ≤ 12) };
+
+    ghost iv_is: { map value IV ≡ width.iv };
+
+    ghost rotations_are: { ROTATIONS ≡ width.r1 ∷ width.r2 ∷ width.r3 ∷ width.r4 ∷ [] };
+
+    ghost zero_is: { value ZERO ≡ 0 };
+
+    // A rotation is by less than the bits of a word.
+    ghost rotations_fit: { (width.r1 < width.bits) × (width.r2 < width.bits) × (width.r3 < width.bits) × (width.r4 < width.bits) };
+
     // Whole words make up eight bytes, and a word is small in memory.
     ghost sizes: { (0 < width.size) × (width.size ≤ 8) × (8 % width.size ≡ 0) × Small Self.row };
+
+    // `^` is that of the values.
+    ghost can_xor: { (x y : Self) → Self.can_bitxor x y };
+
+    ghost xor_is: { (x y r : Self) → Self.bitxor_gives x y r → value r ≡ bit_xor (value x) (value y) };
 }
 
 impl Word for u64 {
@@ -76,48 +93,52 @@ impl Word for u64 {
 
     ghost value = { λ x. x };
 
+    const SIZE: usize = 8;
+
+    ghost SIZE = { blake2b.size };
+
+    const ROUNDS: usize = 12;
+
+    ghost ROUNDS = { blake2b.rounds };
+
+    const IV: [u64; 8] = [
+        0x6a09e667f3bcc908,
+        0xbb67ae8584caa73b,
+        0x3c6ef372fe94f82b,
+        0xa54ff53a5f1d36f1,
+        0x510e527fade682d1,
+        0x9b05688c2b3e6c1f,
+        0x1f83d9abfb41bd6b,
+        0x5be0cd19137e2179,
+    ];
+
+    ghost IV = { blake2b.iv };
+
+    const ROTATIONS: [u32; 4] = [32, 24, 16, 63];
+
+    ghost ROTATIONS = { blake2b.r1 ∷ blake2b.r2 ∷ blake2b.r3 ∷ blake2b.r4 ∷ [] };
+
+    const ZERO: u64 = 0;
+
+    ghost ZERO = { 0 };
+
+    ghost size_is = { Prim.search rules };
+
+    ghost rounds_is = { Prim.search rules };
+
+    ghost iv_is = { Prim.search rules };
+
+    ghost rotations_are = { Prim.search rules };
+
+    ghost zero_is = { Prim.search rules };
+
+    ghost rotations_fit = { Prim.search rules };
+
     ghost sizes = { Prim.search rules };
 
-    fn size() -> usize {
-        8
-    }
+    ghost can_xor = { Prim.search rules };
 
-    fn rounds() -> usize {
-        12
-    }
-
-    fn iv() -> [u64; 8] {
-        [
-            0x6a09e667f3bcc908,
-            0xbb67ae8584caa73b,
-            0x3c6ef372fe94f82b,
-            0xa54ff53a5f1d36f1,
-            0x510e527fade682d1,
-            0x9b05688c2b3e6c1f,
-            0x1f83d9abfb41bd6b,
-            0x5be0cd19137e2179,
-        ]
-    }
-
-    fn r1() -> u32 {
-        32
-    }
-
-    fn r2() -> u32 {
-        24
-    }
-
-    fn r3() -> u32 {
-        16
-    }
-
-    fn r4() -> u32 {
-        63
-    }
-
-    fn zero() -> u64 {
-        0
-    }
+    ghost xor_is = { Prim.search rules };
 
     fn mask(on: bool) -> u64 {
         if on { 0xffff_ffff_ffff_ffff } else { 0 }
@@ -143,10 +164,6 @@ impl Word for u64 {
         self.wrapping_add(other)
     }
 
-    fn xor(self, other: u64) -> u64 {
-        self ^ other
-    }
-
     fn right(self, by: u32) -> u64 {
         self.rotate_right(by)
     }
@@ -157,42 +174,46 @@ impl Word for u32 {
 
     ghost value = { λ x. x };
 
+    const SIZE: usize = 4;
+
+    ghost SIZE = { blake2s.size };
+
+    const ROUNDS: usize = 10;
+
+    ghost ROUNDS = { blake2s.rounds };
+
+    const IV: [u32; 8] = [
+        0x6a09e667, 0xbb67ae85, 0x3c6ef372, 0xa54ff53a, 0x510e527f, 0x9b05688c, 0x1f83d9ab,
+        0x5be0cd19,
+    ];
+
+    ghost IV = { blake2s.iv };
+
+    const ROTATIONS: [u32; 4] = [16, 12, 8, 7];
+
+    ghost ROTATIONS = { blake2s.r1 ∷ blake2s.r2 ∷ blake2s.r3 ∷ blake2s.r4 ∷ [] };
+
+    const ZERO: u32 = 0;
+
+    ghost ZERO = { 0 };
+
+    ghost size_is = { Prim.search rules };
+
+    ghost rounds_is = { Prim.search rules };
+
+    ghost iv_is = { Prim.search rules };
+
+    ghost rotations_are = { Prim.search rules };
+
+    ghost zero_is = { Prim.search rules };
+
+    ghost rotations_fit = { Prim.search rules };
+
     ghost sizes = { Prim.search rules };
 
-    fn size() -> usize {
-        4
-    }
+    ghost can_xor = { Prim.search rules };
 
-    fn rounds() -> usize {
-        10
-    }
-
-    fn iv() -> [u32; 8] {
-        [
-            0x6a09e667, 0xbb67ae85, 0x3c6ef372, 0xa54ff53a, 0x510e527f, 0x9b05688c, 0x1f83d9ab,
-            0x5be0cd19,
-        ]
-    }
-
-    fn r1() -> u32 {
-        16
-    }
-
-    fn r2() -> u32 {
-        12
-    }
-
-    fn r3() -> u32 {
-        8
-    }
-
-    fn r4() -> u32 {
-        7
-    }
-
-    fn zero() -> u32 {
-        0
-    }
+    ghost xor_is = { Prim.search rules };
 
     fn mask(on: bool) -> u32 {
         if on { 0xffff_ffff } else { 0 }
@@ -217,10 +238,6 @@ impl Word for u32 {
 
     fn plus(self, other: u32) -> u32 {
         self.wrapping_add(other)
-    }
-
-    fn xor(self, other: u32) -> u32 {
-        self ^ other
     }
 
     fn right(self, by: u32) -> u32 {

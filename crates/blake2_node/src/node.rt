@@ -58,7 +58,7 @@ impl<W: Word> NodeHash for Blake2Node<W> {
     }
 
     fn is_fit(&self) -> bool {
-        W::size() == self.label.variant.word_size()
+        W::SIZE == self.label.variant.word_size()
             && self
                 .key
                 .as_ref()

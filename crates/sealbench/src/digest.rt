@@ -53,7 +53,7 @@ fn digest_text<W: Word>(
     file: &str,
 ) -> Result<String, Failure> {
     let heap = rt.alloc();
-    let bytes = bytes.unwrap_or(8 * W::size());
+    let bytes = bytes.unwrap_or(8 * W::SIZE);
     Stream::<W>::check(bytes, key)?;
     let mut digest = vec![in heap; 0u8; bytes]?;
     digest_file(rt, Stream::<W>::begin(bytes, key), file, &mut digest)?;

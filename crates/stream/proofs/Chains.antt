@@ -1,21 +1,11 @@
 -- Blocks that are not the last go into the chain value at once.
-use Rattle.std.proofs.Common.{◌≡◌, ℕ, zero, suc, ◌+◌, ◌-◌, ◌*◌, ◌/◌, ◌%◌, ◌<◌, ◌≤◌, Bool, true, false, List, [], ◌∷◌, ◌++◌, length, take, drop, sym, refl, ap, ◌∙◌, add-zero, add_assoc, mul-le-mul_right, mul_comm, add-mul, add_comm, one-mul, mul-one, mul-suc, mul-add, div-mul-le_self, add-one, arith}
-use native.Mathlib.Nat.{add-div_right}
-use Rattle.std.proofs.lemmas.List.{take_at, take_all, take-append-drop, drop_at, drop-drop, length-append, length-take-le, length-drop, append_assoc}
+use Rattle.std.proofs.Common.{◌≡◌, ℕ, suc, ◌+◌, ◌-◌, ◌*◌, ◌/◌, ◌%◌, ◌<◌, Bool, true, false, List, [], ◌++◌, length, take, drop, sym, ap, ◌∙◌, add_comm, mod-eq_of_lt, mul-suc, add-one, arith}
+use native.Mathlib.Nat.{add-div_right, add-mod_left, mul-mod_left}
+use Rattle.std.proofs.lemmas.List.{take_at, drop_at, drop-drop, length-append, append_assoc, nil_from_length}
 use Rattle.blake2.specs.Bytes.{words_of, pad}
 use Rattle.blake2.specs.Compression.{compress}
 use Rattle.blake2.specs.Width.{Width, block_size}
 use Rattle.stream.specs.Hash.{chain, ended}
-use Rattle.stream.proofs.Closing.{whole_blocks}
-
--- one turn of the block loop: i of n blocks are done
-pub chain_more : (w : Width) (last node : Bool) (n i t : ℕ) (bs h : List ℕ) → i < n
-    → chain w last node (n - i) t bs h
-    ≡ chain w last node (n - (i + 1)) (t + block_size w) (drop (block_size w) bs) (compress w h (words_of w 16 (take (block_size w) bs)) t last node)
-unfolding chain
-chain_more w last node n i t bs h l =
-    let e : n - i ≡ suc (n - (i + 1)) = omega arith in
-    rw e
 
 next_count : (b m n : ℕ) → 0 < b → m ≡ b + n → 0 < n → (m - 1) / b ≡ suc ((n - 1) / b)
 next_count b m n hb e hn =
@@ -48,70 +38,26 @@ ended_block w node t block rest h hs e hr =
     next_count (block_size w) (length (block ++ rest)) (length rest) (omega arith) (length-append block rest ∙ ap (λ (k : ℕ). k + length rest) e) hr in
     rw n (tail w node ((length rest - 1) / block_size w) t block rest h e)
 
-no_bytes : (bs : List ℕ) → length bs ≡ 0 → bs ≡ []
-no_bytes [] e = refl
-no_bytes (x ∷ bs) e = absurd (omega arith)
+module _ (w : Width) (size : ℕ) (is : size ≡ block_size w) (block left left' : List ℕ) (cut : left ≡ block ++ left') (long : length block ≡ size) where
+  -- a block less is left
+  pub still_whole : length left % block_size w ≡ 0 → length left' % block_size w ≡ 0
+  still_whole whole =
+      let counts : length left ≡ block_size w + length left' = ap length cut ∙ length-append block left' ∙ ap (λ n. n + length left') (long ∙ is) in
+      sym (add-mod_left (block_size w) (length left')) ∙ ap (λ n. n % block_size w) (sym counts) ∙ whole
 
--- k blocks before a rest that is not empty
-pub ended-chain : (w : Width) (node : Bool) (k t : ℕ) (bs rest h : List ℕ) → 0 < w.size → length bs ≡ k * block_size w → 0 < length rest
-    → ended w node (t + length bs) rest (chain w false false k (t + block_size w) bs h) ≡ ended w node t (bs ++ rest) h
-unfolding chain
-ended-chain w node zero t bs rest h hs e hr =
-    let none : bs ≡ [] = no_bytes bs (omega arith) in
-    rw (none, add-zero)
-ended-chain w node (suc k) t bs rest h hs e hr =
-    let b = block_size w in
-    let h' = compress w h (words_of w 16 (take b bs)) (t + b) false false in
-    let long : b ≤ length bs = omega arith in
-    let front : length (take b bs) ≡ b = length-take-le b bs long in
-    let back : length (drop b bs) ≡ k * b = omega (arith, length-drop b bs) in
-    let more : 0 < length (drop b bs ++ rest) = simp length-append (omega arith) in
-    let all : t + length bs ≡ t + b + length (drop b bs) = omega (arith, length-drop b bs) in
-    let whole : take b bs ++ (drop b bs ++ rest) ≡ bs ++ rest =
-    sym (append_assoc (take b bs) (drop b bs) rest) ∙ ap (λ xs. xs ++ rest) (take-append-drop b bs) in
-    ap (λ n. ended w node n rest (chain w false false k (t + b + b) (drop b bs) h')) all
-    ∙ ended-chain w node k (t + b) (drop b bs) rest h' hs back hr
-    ∙ ended_block w node t (take b bs) (drop b bs ++ rest) h hs front more
-    ∙ ap (λ xs. ended w node t xs h) whole
+  pub counted : (t t' n : ℕ) → t' ≡ t + size → t + length left ≡ n → t' + length left' ≡ n
+  counted t t' n next count = omega (arith, ap length cut, length-append block left')
 
--- a block of the loop lies within the bytes
-pub block_within : (b n i : ℕ) → i < n / b → b * i + b ≤ n
-block_within b n i h =
-    let a = div-mul-le_self n b in
-    let d : (i + 1) * b ≤ n / b * b = mul-le-mul_right b (omega arith) in
-    omega (arith, mul_comm b i, add-mul i 1 b, one-mul b)
+  -- it went into the chain value
+  pub absorbed : (node : Bool) (t t' : ℕ) (h h' rest : List ℕ) → 0 < size → t' ≡ t + size → h' ≡ compress w h (words_of w 16 block) (t + size) false false → 0 < length rest
+      → ended w node t' (left' ++ rest) h' ≡ ended w node t (left ++ rest) h
+  absorbed node t t' h h' rest some next step more =
+      let behind : 0 < length (left' ++ rest) = simp length-append (omega arith) in
+      rw (next, step, is, cut, append_assoc) (ended_block w node t block (left' ++ rest) h (omega arith) (long ∙ is) behind)
 
--- one turn of the block loop, with its own numbers: the block that begins at `at`, of k bytes, has the words m
-pub chain-turn : (w : Width) (last node : Bool) (n i t at k : ℕ) (bytes m h h' all : List ℕ)
-    → i < n → at ≡ block_size w * i → k ≡ block_size w → m ≡ words_of w 16 (take k (drop at bytes)) → h' ≡ compress w h m (t + at) last node
-    → chain w last node (n - i) (t + block_size w * i) (drop (block_size w * i) bytes) h ≡ all
-    → chain w last node (n - (i + 1)) (t + block_size w * (i + 1)) (drop (block_size w * (i + 1)) bytes) h' ≡ all
-chain-turn w last node n i t at k bytes m h h' all less here size words step inv =
-    let b = block_size w in
-    let next : b * (i + 1) ≡ b * i + b = mul-add b i 1 ∙ ap (λ x. b * i + x) (mul-one b) in
-    let later : t + (b * i + b) ≡ t + b * i + b = sym (add_assoc t (b * i) b) in
-    rw (next, later, sym (drop-drop b (b * i) bytes), step, words, here, size) (sym (chain_more w last node n i (t + b * i) (drop (b * i) bytes) h less) ∙ inv)
+-- whole blocks that are shorter than one are none
+pub none_left : (size : ℕ) (left : List ℕ) → length left % size ≡ 0 → length left < size → left ≡ []
+none_left size left whole short = nil_from_length left (sym (mod-eq_of_lt short) ∙ whole)
 
--- after the last turn no block is left
-pub chain_done : (w : Width) (last node : Bool) (n i t : ℕ) (bs h all : List ℕ) → n ≤ i
-    → chain w last node (n - i) t bs h ≡ all → h ≡ all
-unfolding chain
-chain_done w last node n i t bs h all done inv =
-    let none : n - i ≡ 0 = omega arith in
-    (rw none at inv)
-
--- whole blocks straight from the input, while nothing waits
-pub absorbed : (w : Width) (node : Bool) (t first filled : ℕ) (wait bytes rest h h' : List ℕ) → 0 < w.size → 8 % w.size ≡ 0 → length bytes % 128 ≡ 0
-    → filled ≡ 0 → first ≡ t + block_size w → 0 < length rest → h' ≡ chain w false false (length bytes / block_size w) first bytes h
-    → ended w node (t + length bytes) (take filled wait ++ rest) h' ≡ ended w node t (take filled wait ++ (bytes ++ rest)) h
-absorbed w node t first filled wait bytes rest h h' some even long none counter more e =
-    rw (none, e, counter) (ended-chain w node (length bytes / block_size w) t bytes rest h some (whole_blocks w (length bytes) even long) more)
-
--- the waiting bytes, once all 128 are there
-pub flushed : (w : Width) (node : Bool) (t first filled : ℕ) (wait rest h h' : List ℕ) → 0 < w.size → 8 % w.size ≡ 0 → length wait ≡ 128
-    → filled ≡ 128 → first ≡ t + block_size w → 0 < length rest → h' ≡ chain w false false (length wait / block_size w) first wait h
-    → ended w node (t + 128) (take 0 wait ++ rest) h' ≡ ended w node t (take filled wait ++ rest) h
-flushed w node t first filled wait rest h h' some even long full counter more e =
-    let whole : take filled wait ≡ wait = take_all filled wait (omega arith) in
-    let part : length wait % 128 ≡ 0 = ap (λ n. n % 128) long in
-    rw (whole, sym long) (absorbed w node t first 0 wait wait rest h h' some even part refl counter more e)
+pub whole_blocks : (size b q n : ℕ) → size ≡ b → n ≡ q * size → n % b ≡ 0
+whole_blocks size b q n is many = rw (many, is) (mul-mod_left q b)

@@ -1,7 +1,7 @@
 -- A key and the zeros after it are the key's block.
-use Rattle.std.proofs.Common.{◌≡◌, ℕ, ◌-◌, ◌<◌, ◌≤◌, false, cond, eqb, List, [], ◌∷◌, ◌++◌, length, take, replicate, sym, refl, ap, ◌∙◌, not-suc-le-zero, arith}
+use Rattle.std.proofs.Common.{◌≡◌, ℕ, ◌-◌, ◌<◌, ◌≤◌, false, cond, eqb, List, [], ◌∷◌, ◌++◌, length, take, drop, replicate, sym, refl, ap, ◌∙◌, not-suc-le-zero, arith}
 use Rattle.std.proofs.lemmas.Bool.{ne_eqb}
-use Rattle.std.proofs.lemmas.List.{append_assoc, take-replicate, length-append, length-replicate}
+use Rattle.std.proofs.lemmas.List.{drop-replicate, take-replicate, length-append, length-replicate}
 use Rattle.blake2.specs.Bytes.{pad}
 use Rattle.blake2.specs.Width.{Width, block_size}
 use Rattle.stream.specs.Hash.{key_block}
@@ -10,13 +10,13 @@ is_padded : (w : Width) (key : List ℕ) → 0 < length key → key_block w key 
 is_padded w [] h = absurd (not-suc-le-zero h)
 is_padded w (k ∷ ks) h = refl
 
-pub keyed : (w : Width) (key rest : List ℕ) (n : ℕ) → 0 < length key → n ≡ block_size w - length key → n ≤ 128
-    → key ++ (take n (replicate 128 0) ++ rest) ≡ key_block w key ++ rest
+-- the zeros come from a block of m
+pub keyed : (w : Width) (key : List ℕ) (b m : ℕ) → 0 < length key → b ≡ block_size w → b ≤ m
+    → key ++ take (b - length key) (drop (length key) (replicate m 0)) ≡ key_block w key
 unfolding pad
-keyed w key rest n h e l =
-    sym (append_assoc key (take n (replicate 128 0)) rest)
-    ∙ ap (λ (xs : List ℕ). (key ++ xs) ++ rest) (take-replicate n 128 0 l ∙ ap (λ (m : ℕ). replicate m 0) e)
-    ∙ ap (λ (xs : List ℕ). xs ++ rest) (sym (is_padded w key h))
+keyed w key b m some size most =
+    ap (λ zs. key ++ zs) (ap (take (b - length key)) (drop-replicate (length key) m 0) ∙ take-replicate (b - length key) (m - length key) 0 (omega arith))
+    ∙ ap (λ n. pad n key) size ∙ sym (is_padded w key some)
 
 pub length-key_block : (w : Width) (key : List ℕ) → 0 < length key → length key ≤ block_size w → length (key_block w key) ≡ block_size w
 unfolding pad

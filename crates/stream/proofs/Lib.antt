@@ -1,8 +1,8 @@
 pub mod Chains
 pub mod Closing
-pub mod Filled
 pub mod Hashes
 pub mod Keys
+pub mod Made
 pub mod Memory
 pub mod Pieces
 pub mod Views

@@ -1,11 +1,9 @@
 -- Words from bytes, and bytes from words.
-use Rattle.std.proofs.Common.{◌≡◌, ℕ, ◌+◌, ◌*◌, ◌<◌, ◌≤◌, List, [], ◌∷◌, ◌++◌, length, get_or, take, drop, sym, ap, ◌∙◌, mul_comm, mul-le-mul_left, mul-one, mul-add, arith}
-use borrow.Rule.Slice.PartMut.{put_mid, post_of}
-use Rattle.std.proofs.lemmas.List.{take_at, take_more, take-append-drop, append-nil, append_assoc, length-append, length-take-le, length-drop}
-use Rattle.std.proofs.lemmas.Slice.{take-put_mid}
+use Rattle.std.proofs.Common.{◌≡◌, ℕ, ◌+◌, ◌*◌, ◌<◌, ◌≤◌, List, [], ◌∷◌, ◌++◌, length, get_or, take, drop, sym, ap, ◌∙◌, mul_comm, mul-le-mul_left, mul-add, arith}
+use Rattle.std.proofs.lemmas.List.{take_at, take_more, append-nil, append_assoc, length-take, length-take-le, length-drop}
 use Rattle.blake2.specs.Bytes.{le_bytes, pad, bytes_of}
 use Rattle.blake2.specs.Width.{Width}
-use Rattle.stream.specs.Sound.{length-le_bytes}
+use Rattle.stream.specs.Sound.{length-le_bytes, length-bytes_of}
 
 -- the word i of m words lies within their bytes
 pub within : (s i m n : ℕ) → i < m → m * s ≤ n → s * i + s ≤ n
@@ -33,36 +31,20 @@ bytes_of_more w (y ∷ xs) x =
     ap (λ bs. le_bytes w.size y ++ bs) (bytes_of_more w xs x)
     ∙ sym (append_assoc (le_bytes w.size y) (bytes_of w xs) (le_bytes w.size x))
 
-length_put_mid : (a k : ℕ) (xs ys : List ℕ) → length ys ≡ k → a + k ≤ length xs → length (put_mid a k xs ys) ≡ length xs
-length_put_mid a k xs ys e h =
-    length-append (take a xs) (ys ++ post_of a k xs)
-    ∙ omega (arith, length-take-le a xs (omega arith), length-append ys (post_of a k xs), length-drop k (drop a xs), length-drop a xs)
+-- the bytes of eight words are at most 64
+pub room_for : (w : Width) (i n : ℕ) (all bytes xs : List ℕ) → w.size ≤ 8 → i < 8 → n ≡ w.size → all ≡ bytes_of w (take i xs) → length all + length (take n bytes) ≤ 64
+room_for w i n all bytes xs few less size so_far =
+    let most : length (take i xs) ≤ 7 = omega (arith, length-take i xs) in
+    let front : w.size * length (take i xs) ≤ w.size * 7 = mul-le-mul_left w.size most in
+    omega (arith, ap length so_far, length-bytes_of w (take i xs), length-take n bytes)
 
--- one turn of the loop that writes the words' bytes: the word x goes to the place `at`
-pub spelled_more : (w : Width) (i at k m : ℕ) (all new word xs : List ℕ) (x : ℕ)
-    → i < length xs → get_or xs i 0 ≡ x → at ≡ w.size * i → at + w.size ≤ length all → k ≡ w.size → m ≡ w.size
-    → word ≡ pad 8 (le_bytes w.size x) → new ≡ take m word → take (w.size * i) all ≡ bytes_of w (take i xs)
-    → (length (put_mid at k all new) ≡ length all) × (take (w.size * (i + 1)) (put_mid at k all new) ≡ bytes_of w (take (i + 1) xs))
-spelled_more w i at k m all new word xs x less here place inside part size bytes copy inv =
-    let n = w.size in
-    let same : new ≡ le_bytes n x = copy ∙ ap (λ j. take j word) size ∙ ap (take n) bytes ∙ take-le_bytes n 8 x in
-    let long : length new ≡ n = ap length same ∙ length-le_bytes n x in
-    let next : n * (i + 1) ≡ at + length new = omega (arith, mul-add n i 1, mul-one n) in (
-      length_put_mid at k all new (omega arith) (omega arith),
-      take-put_mid at k all new (n * (i + 1)) next (omega arith)
-          ∙ ap (λ front. front ++ new) (ap (λ j. take j all) place ∙ inv)
-          ∙ ap (λ back. bytes_of w (take i xs) ++ back) (same ∙ ap (le_bytes n) (sym here))
-          ∙ sym (bytes_of_more w (take i xs) (get_or xs i 0))
-          ∙ ap (bytes_of w) (sym (take_more xs i 0 less)),
-    )
+-- one turn of the loop over the words: those before the i-th are spelled, and now this one is
+pub spelled_more : (w : Width) (i : ℕ) (all new bytes xs : List ℕ) (x : ℕ) → i < length xs → get_or xs i 0 ≡ x → bytes ≡ pad 8 (le_bytes w.size x)
+    → all ≡ bytes_of w (take i xs) → new ≡ all ++ take w.size bytes → new ≡ bytes_of w (take (i + 1) xs)
+spelled_more w i all new bytes xs x less here is so_far more =
+    more ∙ rw (so_far, is, take-le_bytes w.size 8 x, sym here) (sym (bytes_of_more w (take i xs) (get_or xs i 0))) ∙ ap (bytes_of w) (sym (take_more xs i 0 less))
 
-pub take_none : (n : ℕ) (bs : List ℕ) → n ≡ 0 → take n bs ≡ []
-take_none n bs e = ap (λ k. take k bs) e
-
--- a piece in three parts, and the rest
-pub three_parts : (j k m n : ℕ) (piece more last rest : List ℕ) → j ≡ k → m ≡ n → more ≡ drop k piece → last ≡ drop n more
-    → take j piece ++ (take m more ++ (last ++ rest)) ≡ piece ++ rest
-three_parts j k m n piece more last rest e d p q =
-    let joined : take n more ++ (last ++ rest) ≡ more ++ rest =
-    ap (λ xs. take n more ++ (xs ++ rest)) q ∙ sym (append_assoc (take n more) (drop n more) rest) ∙ ap (λ xs. xs ++ rest) (take-append-drop n more) in
-    rw (e, d, joined, p) (sym (append_assoc (take k piece) (drop k piece) rest) ∙ ap (λ xs. xs ++ rest) (take-append-drop k piece))
+-- a piece of which the first part fills the waiting bytes, then come whole blocks, and then the last part
+pub parts : (wait piece front more whole last rest : List ℕ) → piece ≡ front ++ more → more ≡ whole ++ last
+    → (wait ++ front) ++ (whole ++ (last ++ rest)) ≡ wait ++ (piece ++ rest)
+parts wait piece front more whole last rest p q = rw (p, q) (simp append_assoc)

@@ -4,3 +4,4 @@ pub mod Hashes
 pub mod Sound
 pub mod States
 pub mod Streams
+pub mod Views

@@ -37,7 +37,7 @@ pub length-le_bytes : (n x : ℕ) → length (le_bytes n x) ≡ n
 length-le_bytes zero x = refl
 length-le_bytes (suc n) x = ap suc (length-le_bytes n (x / 256))
 
-length-bytes_of : (w : Width) (xs : List ℕ) → length (bytes_of w xs) ≡ w.size * length xs
+pub length-bytes_of : (w : Width) (xs : List ℕ) → length (bytes_of w xs) ≡ w.size * length xs
 unfolding bytes_of
 length-bytes_of w [] = omega arith
 length-bytes_of w (x ∷ xs) =

@@ -1,7 +1,6 @@
 // BLAKE2 streams: the digest of bytes that come in pieces.
 #![tactic(auto)]
 
-mod calls;
 mod chain;
 mod once;
 mod output;

@@ -2,8 +2,9 @@
 ghost use Rattle.std.specs.Prelude.{◌≡◌, length};
 ghost use Rattle.stream.specs.Hashes.{hash_answer, hash_out};
 
-use crate::calls::LIMIT;
-use crate::{Stream, state};
+use crate::Stream;
+use crate::state::State;
+use crate::stream::LIMIT;
 use blake2::Word;
 use fault::{Fault, Refusal};
 
@@ -23,10 +24,9 @@ pub fn hash<W: Word>(
     if input.len() as u64 > LIMIT {
         return Err(Fault::new(Refusal::StreamLength, 0));
     }
-    let mut state = state::begin::<W>(parameters);
-    state::add_key(&mut state, key);
-    state::add(&mut state, input);
-    let blocks = state::blocks(&state);
-    state::finish(state, last_node, out);
+    let mut state = State::<W>::begin(parameters, key);
+    state.add(input);
+    let blocks = state.blocks();
+    state.finish(last_node, out);
     Ok(blocks)
 }

@@ -2,9 +2,8 @@ use denote.Ref.{Bor}
 use Rattle.std.proofs.Common.{◌≡◌, ℕ, ◌^◌, ◌<◌, ◌≤◌, List, [], map, length, take, Err, sym, ap, ◌∙◌, zero-add, arith}
 use Rattle.std.proofs.lemmas.List.{get_or-map, length-map, take_all}
 use Rattle.std.proofs.lemmas.Result.{err_from_is_err_and}
-use Rattle.stream.specs.States.{view_of}
+use Rattle.stream.specs.Views.{view_of}
 use Rattle.stream.specs.Streams.{fresh, taken, joined}
-use Rattle.stream.proofs.Memory.{stream_fits}
 use Rattle.stream.proofs.Pieces.{taken_none, pieces_more, begun_is, out_kept, begin_stops, add_stops, finish_answers, finish_writes}
 use Rattle.stream.proofs.once.digest_pieces.Goals as goal
 
@@ -20,16 +19,10 @@ returns-in_err-check g c =
       out = out_kept g.W.Word.width c.args.digest_len key input out _ stop;
     }
 
-pub begin-stream-requires : goal.begin-stream-requires
-begin-stream-requires g c = let small = g.met.W.Word.sizes.3 in stream_fits _ _ small.1 small.0
-
 pub loop-piece-init : goal.loop-piece-init
 loop-piece-init g c =
     let w = g.W.Word.width in
     c.begin-stream.ensures ∙ begun_is w c.args.digest_len c.args.key.now (sym c.in_ok-check.ensures) ∙ taken_none (fresh w c.args.digest_len c.args.key.now)
-
-pub add-requires : goal.add-requires
-add-requires g c = let small = g.met.W.Word.sizes.3 in stream_fits _ _ small.1 small.0
 
 pub returns-in_err-add : goal.returns-in_err-add
 returns-in_err-add g c =
@@ -40,7 +33,7 @@ returns-in_err-add g c =
     let i = c.loop-piece.piece-index in
     let pieces = map (λ x. x.now) c.args.pieces.now in
     let out = c.args.out.now in
-    let v = view_of w g.W.Word.value c.loop-piece.stream in
+    let v = view_of c.loop-piece.stream in
     let inside : i < length pieces = omega (arith, length-map c.args.pieces.now (λ (x : Bor (List ℕ)). x.now)) in
     let total : v.total ≡ length (joined (take i pieces)) = ap (λ u. u.total) c.loop-piece.invariant ∙ zero-add (length (joined (take i pieces))) in
     let stop = add_stops w d (length key) (length out) i v pieces _ c.in_err-add.field-0.0 (sym c.in_ok-check.ensures) inside
@@ -56,12 +49,9 @@ loop-piece-preserved g c =
     let i = c.loop-piece.piece-index in
     let pieces = map (λ x. x.now) c.args.pieces.now in
     let inside : i < length pieces = omega (arith, length-map c.args.pieces.now (λ (x : Bor (List ℕ)). x.now)) in
-    pieces_more (fresh w c.args.digest_len c.args.key.now) (view_of w g.W.Word.value c.loop-piece.stream) _ pieces i _
+    pieces_more (fresh w c.args.digest_len c.args.key.now) (view_of c.loop-piece.stream) _ pieces i _
     c.in_ok-add.ensures.after (sym c.in_ok-add.ensures.answer) c.loop-piece.invariant inside
     (get_or-map (λ x. x.now) c.args.pieces.now i _ [] c.loop-piece-test.true)
-
-pub finish-requires : goal.finish-requires
-finish-requires g c = let small = g.met.W.Word.sizes.3 in stream_fits _ _ small.1 small.0
 
 pub returns : goal.returns
 returns g c =
@@ -69,7 +59,7 @@ returns g c =
     let d = c.args.digest_len in
     let key = c.args.key.now in
     let pieces = map (λ x. x.now) c.args.pieces.now in
-    let v = view_of w g.W.Word.value c.loop-piece.stream in
+    let v = view_of c.loop-piece.stream in
     let ok = sym c.in_ok-check.ensures in
     let whole : take c.loop-piece.piece-index pieces ≡ pieces = take_all c.loop-piece.piece-index pieces (omega (arith, length-map c.args.pieces.now (λ (x : Bor (List ℕ)). x.now))) in
     let all : v ≡ taken (fresh w d key) (joined pieces) = c.loop-piece.invariant ∙ ap (λ xs. taken (fresh w d key) (joined xs)) whole in

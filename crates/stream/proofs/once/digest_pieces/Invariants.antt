@@ -1,5 +1,5 @@
 use Rattle.std.proofs.Common.{◌≡◌, map, take}
-use Rattle.stream.specs.States.{view_of}
+use Rattle.stream.specs.Views.{view_of}
 use Rattle.stream.specs.Streams.{fresh, taken, joined}
 use Rattle.stream.proofs.once.digest_pieces.Given as goal
 
@@ -7,4 +7,4 @@ use Rattle.stream.proofs.once.digest_pieces.Given as goal
 abbrev pub invariant-loop-piece : goal.invariant-loop-piece
 invariant-loop-piece g l =
     let w = g.W.Word.width in
-    view_of w g.W.Word.value l.stream ≡ taken (fresh w l.digest_len l.key) (joined (take l.piece-index (map (λ x. x.now) l.pieces)))
+    view_of l.stream ≡ taken (fresh w l.digest_len l.key) (joined (take l.piece-index (map (λ x. x.now) l.pieces)))

@@ -1,37 +1,41 @@
-use Rattle.std.proofs.Common.{◌≡◌, ◌*◌, ◌<◌, ◌≤◌, map, length, take, refl, ap, ◌∙◌, mul_comm, mul-zero, arith, rules}
+use Rattle.std.proofs.Common.{◌≡◌, ◌*◌, ◌<◌, List, ◌++◌, length, get_or, take, sym, ap, ◌∙◌, mul_comm, rules, arith}
 use Rattle.std.proofs.lemmas.List.{get_or-map, length-map, take_all}
 use Rattle.blake2.specs.Bytes.{bytes_of}
-use Rattle.stream.proofs.Words.{within, spelled_more, take_none}
+use Rattle.stream.specs.Sound.{length-bytes_of}
+use Rattle.stream.proofs.Words.{spelled_more, room_for}
 use Rattle.stream.proofs.output.spelled.Goals as goal
 
-pub loop-i-init : goal.loop-i-init
+pub loop-word-init : goal.loop-word-init
 unfolding bytes_of
-loop-i-init g c = (refl, take_none _ _ (mul-zero g.W.Word.width.size), λ none. absurd (omega arith))
+loop-word-init g c = c.new-all.ensures
 
-pub slice_bounds-all-end : goal.slice_bounds-all-end
-slice_bounds-all-end g c =
-    let h = within c.size-n.result c.loop-i.i 8 64 c.loop-i-test.true (omega arith) in search rules
-
-pub loop-i-preserved : goal.loop-i-preserved
-loop-i-preserved g c =
-    let f = g.W.Word.value in
+pub unwrap-requires : goal.unwrap-requires
+unwrap-requires g c =
     let w = g.W.Word.width in
-    let i = c.loop-i.i in
-    let h = c.args.h.now in
-    let inside : i < length h = search rules in
-    let room = within c.size-n.result i 8 64 c.loop-i-test.true (omega arith) in
-    let more = spelled_more w i (c.size-n.result * i) _ _ c.loop-i.all c.copy_from_slice.new.self c.bytes-word.result (map f h) _
-    (omega (arith, length-map h f)) (get_or-map f h i _ 0 inside) (ap (λ n. n * i) c.size-n.ensures.0) (omega (arith, c.loop-i.invariant.0)) (omega arith) (omega arith)
-    c.bytes-word.ensures c.copy_from_slice.ensures.after c.loop-i.invariant.1 in
-    (more.0 ∙ c.loop-i.invariant.0, more.1, λ _. search rules)
+    let size = c.SIZE.ensures ∙ g.met.W.Word.size_is in
+    let e = c.as_slice-word-items.ensures in
+    c.try_extend_from_slice.ensures.variant.1
+    (room_for w c.loop-word.word-index c.SIZE.result c.loop-word.all.items c.bytes.result c.args.h.now g.met.W.Word.sizes.1
+    (omega (arith, ap (λ (xs : List _). length xs) e.value, length-map c.as_slice-word-items.result.now g.W.Word.value)) size c.loop-word.invariant)
+
+pub loop-word-preserved : goal.loop-word-preserved
+loop-word-preserved g c =
+    let f = g.W.Word.value in
+    let i = c.loop-word.word-index in
+    let words = c.as_slice-word-items.result.now in
+    let is = c.as_slice-word-items.ensures.value in
+    let size = c.SIZE.ensures ∙ g.met.W.Word.size_is in
+    let here = ap (λ xs. get_or xs i 0) (sym is) ∙ get_or-map f words i c.word-item.result 0 c.loop-word-test.true ∙ ap f (sym c.word-item.is) in
+    let inside : i < length c.args.h.now = omega (arith, ap (λ (xs : List _). length xs) is, length-map words f) in
+    let joins : c.try_extend_from_slice.new.self.items ≡ c.loop-word.all.items ++ take c.SIZE.result c.bytes.result = search rules in
+    spelled_more g.W.Word.width i c.loop-word.all.items _ c.bytes.result c.args.h.now _ inside here c.bytes.ensures c.loop-word.invariant
+    (joins ∙ ap (λ n. c.loop-word.all.items ++ take n c.bytes.result) size)
 
 pub returns : goal.returns
 returns g c =
-    let f = g.W.Word.value in
+    let words = c.as_slice-word-items.result.now in
+    let e = c.as_slice-word-items.ensures in
     let w = g.W.Word.width in
-    let h = c.args.h.now in
-    let all : c.loop-i.i ≡ 8 = omega arith in
-    let eight : length h ≡ 8 = c.loop-i.invariant.2 (omega arith) in
-    let long : length (map f h) ≤ 8 = omega (arith, length-map h f) in
-    ap (λ n. take n c.loop-i.all) (mul_comm 8 w.size)
-    ∙ (rw all at c.loop-i.invariant.1) ∙ ap (bytes_of w) (take_all 8 (map f h) long)
+    let eight : length c.args.h.now ≡ 8 = ap (λ (xs : List _). length xs) (sym e.value) ∙ length-map words g.W.Word.value ∙ e.len in
+    let bytes = c.loop-word.invariant ∙ ap (bytes_of w) (take_all c.loop-word.word-index c.args.h.now (omega arith)) in
+    record { bytes = bytes; len = ap length bytes ∙ length-bytes_of w c.args.h.now ∙ ap (λ n. w.size * n) eight ∙ mul_comm w.size 8 }

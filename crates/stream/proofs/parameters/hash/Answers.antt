@@ -1,11 +1,11 @@
-use Rattle.std.proofs.Common.{◌+◌, ◌*◌, ◌≤◌, [], ◌++◌, length, take, Ok, Err, sym, ap, ◌∙◌, arith}
+use Rattle.std.proofs.Common.{◌+◌, [], length, take, Ok, Err, sym, ap, ◌∙◌, arith}
 use Rattle.std.proofs.lemmas.List.{append-nil}
 use Rattle.std.proofs.lemmas.Result.{err_from_is_err_and}
 use Rattle.blake2.specs.Bytes.{bytes_of}
-use Rattle.stream.specs.Hash.{before, ended, hash, initial, key_block}
+use Rattle.stream.specs.Hash.{before, hash}
+use Rattle.stream.specs.States.{meaning}
 use Rattle.stream.proofs.Hashes.{begin_tells, begin_refuses, length_refuses, hash-accepted, hash_kept, hash-written}
-use Rattle.stream.proofs.Keys.{keyed_most, length-keyed}
-use Rattle.stream.proofs.Memory.{state_fits}
+use Rattle.stream.proofs.Keys.{length-keyed}
 use Rattle.stream.proofs.parameters.hash.Goals as goal
 
 pub returns-in_err-check : goal.returns-in_err-check
@@ -33,35 +33,8 @@ returns-then-input-gt-LIMIT g c =
       out = hash_kept w c.args.last_node c.args.parameters.now key input out _ stop;
     }
 
-pub add-requires : goal.add-requires
-add-requires g c =
-    let w = g.W.Word.width in
-    let small = g.met.W.Word.sizes in
-    let tells = begin_tells w _ _ (sym c.in_ok-check.ensures) in
-    let most = keyed_most w c.args.key.now (omega arith) in
-    let taken = c.add_key.ensures.count in
-    (state_fits _ _ small.3.1 small.3.0, (c.add_key.ensures.filled, omega arith))
-
-pub blocks-blocks-requires : goal.blocks-blocks-requires
-blocks-blocks-requires g c =
-    let w = g.W.Word.width in
-    let small = g.met.W.Word.sizes in
-    let tells = begin_tells w _ _ (sym c.in_ok-check.ensures) in
-    let most = keyed_most w c.args.key.now (omega arith) in
-    let taken = c.add_key.ensures.count in
-    (state_fits _ _ small.3.1 small.3.0, (c.add.ensures.filled, omega (arith, c.add.ensures.count)))
-
-pub finish-requires : goal.finish-requires
-finish-requires g c =
-    let w = g.W.Word.width in
-    let small = g.met.W.Word.sizes in
-    let tells = begin_tells w _ _ (sym c.in_ok-check.ensures) in
-    let most = keyed_most w c.args.key.now (omega arith) in
-    let taken = c.add_key.ensures.count in
-    (state_fits _ _ small.3.1 small.3.0, (c.add.ensures.filled, (omega (arith, c.add.ensures.count), tells.0)))
-
 pub returns : goal.returns
-unfolding hash
+unfolding hash meaning
 returns g c =
     let w = g.W.Word.width in
     let key = c.args.key.now in
@@ -69,20 +42,15 @@ returns g c =
     let out = c.args.out.now in
     let node = c.args.last_node in
     let p = c.args.parameters.now in
+    let s = c.begin-state.ensures in
     let ok = sym c.in_ok-check.ensures in
     let tells = begin_tells w (length out) (length key) ok in
-    let short : length key ≤ 16 * w.size = omega arith in
     let pass = hash-accepted w (length key) (length input) (length out) ok c.if-input-gt-LIMIT.false in
+    let keyed = ap length s.waits ∙ length-keyed w key (omega arith) in
     record {
-      answer =
-          ap Ok
-          (c.blocks-blocks.ensures
-          ∙ ap (λ n. before w n + 1) (c.add.ensures.count ∙ ap (λ n. n + length input) (c.add_key.ensures.count ∙ length-keyed w key short)))
-          ∙ sym pass;
+      answer = ap Ok (c.blocks-blocks.ensures ∙ ap (λ n. before w n + 1) (omega (arith, c.add.ensures.count, keyed, s.none))) ∙ sym pass;
       out =
           c.finish.ensures
-          ∙ ap (λ h. take (length out) (bytes_of w h))
-          (c.add.ensures.means node [] ∙ c.add_key.ensures.means node (input ++ []) ∙ c.begin-state.ensures.means node (key_block w key ++ (input ++ []))
-          ∙ ap (λ xs. ended w node 0 (key_block w key ++ xs) (initial w p)) (append-nil input))
+          ∙ ap (λ h. take (length out) (bytes_of w h)) (c.add.ensures.means node [] ∙ rw (s.none, s.waits, s.value, append-nil))
           ∙ sym (hash-written w node p key input out _ pass);
     }
