@@ -9,9 +9,10 @@ use Rattle.lines.proofs.Formats.{AllFaithful, AllHave}
 use Rattle.lines.specs.Lines.{formed, number_line}
 use Rattle.lines.specs.declared.range.Range.{Range}
 use Rattle.label.specs.declared.label.Label.{Label}
-use Rattle.label.specs.Labels.{variant_of, variant_line, layout_line, label_format, values_of}
+use Rattle.blake2.specs.Variants.{letter, variant_of}
+use Rattle.label.specs.Labels.{variant_line, layout_line, label_format, values_of}
 use Rattle.label.specs.Meaning.{parts}
-use Rattle.label.specs.Rules.{digest_range, key_range, fanout_range, depth_range, page_range, salt_length_of, layout_byte, are_layout_bytes, layout_name, letter}
+use Rattle.label.specs.Rules.{digest_range, key_range, fanout_range, depth_range, page_range, salt_length_of, layout_byte, are_layout_bytes, layout_name}
 
 variant_faithful : (n : ℕ) → Faithful (variant_line n [])
 variant_faithful n v variant h = go v (formed_back n (variant_of v) h)

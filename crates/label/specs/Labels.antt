@@ -1,5 +1,6 @@
 -- The text of a label, line by line, and what is read from a text.
 use Rattle.std.specs.Prelude.{ℕ, ◌-◌, cond, not, List, [], ◌∷◌, ◌++◌, length, drop, is_ok, Some, None, Ok, codes, Option, Result, ◌==◌, nat_lt}
+use Rattle.blake2.specs.Variants.{letter, variant_of}
 use Rattle.blake2.specs.declared.variant.Variant.{Variant}
 use Rattle.blake2.specs.declared.variant.Variant.TheVariants.{B, S}
 use Rattle.fault.specs.Faults.{Row, on, unless}
@@ -7,7 +8,7 @@ use Rattle.fault.specs.declared.fault.Fault.{Fault}
 use Rattle.fault.specs.declared.refusal.Refusal.TheVariants.{LineForm, NumberRange, LabelBuffer}
 use Rattle.lines.specs.Formats.{Format, end, line, Values, read_lines, write_lines}
 use Rattle.lines.specs.Lines.{Line, formed, inside, fixed_line, number_line, bytes_line, end_answer, then}
-use Rattle.label.specs.Rules.{digest_range, key_range, fanout_range, depth_range, page_range, salt_length_of, layout_name, letter}
+use Rattle.label.specs.Rules.{digest_range, key_range, fanout_range, depth_range, page_range, salt_length_of, layout_name}
 
 -- what a label says
 pub record Parts : Type 0 where
@@ -21,11 +22,6 @@ pub record Parts : Type 0 where
   pub layout : List ℕ
 
 -- a line with the letter of a variant
-abbrev pub variant_of : List ℕ → Option Variant
-variant_of [] = None
-variant_of (c ∷ []) = cond (c == 98) (Some B) (cond (c == 115) (Some S) None)
-variant_of (c ∷ (d ∷ v)) = None
-
 abbrev pub variant_line : ℕ → List ℕ → Line Variant
 variant_line n name = record { number = n; name = name; read = λ v. formed n (variant_of v); write = letter }
 

@@ -37,8 +37,3 @@ are_layout_bytes v = list_all layout_byte v
 
 abbrev pub layout_name : Variant → List ℕ → Bool
 layout_name variant v = is_in_range 1 (salt_length_of variant) (length v) && are_layout_bytes v
-
--- the letter that stands for a variant
-abbrev pub letter : Variant → List ℕ
-letter B = codes "b"
-letter S = codes "s"

@@ -17,11 +17,10 @@ fn variant(lines: &mut Lines<'_>, name: &[u8]) -> Result<Variant, Fault>
     ensures answer { result ≡ value_of (read_line (variant_line (lines.old.taken + 1) name.now) lines.old.left) }
     ensures after { lines.new ≡ past name.now lines.old }
 {
-    match lines.value(name)? {
-        b"b" => Ok(Variant::B),
-        b"s" => Ok(Variant::S),
-        _ => Err(lines.fault(Refusal::LineForm)),
-    }
+    let letter = lines.value(name)?;
+    Variant::try_from(letter)
+        .ok()
+        .ok_or(lines.fault(Refusal::LineForm))
 }
 
 // Takes the line with a layout name.

@@ -1,6 +1,6 @@
 // What the fields of a label may be.
 ghost use Rattle.std.specs.Prelude.{◌≡◌, ◌≤◌, ◌&&◌, [], ◌∷◌, length};
-ghost use Rattle.label.specs.Rules.{digest_range, key_range, salt_length_of, letter, layout_byte, are_layout_bytes, layout_name};
+ghost use Rattle.label.specs.Rules.{digest_range, key_range, salt_length_of, layout_byte, are_layout_bytes, layout_name};
 
 use blake2::Variant;
 use lines::Range;
@@ -18,10 +18,7 @@ pub(crate) const PAGE: Range = Range {
 fn longest(variant: Variant) -> u16
     ensures { result ≡ (key_range variant).high }
 {
-    match variant {
-        Variant::B => 64,
-        Variant::S => 32,
-    }
+    8 * variant.word_size() as u16
 }
 
 pub(crate) fn digest_range(variant: Variant) -> Range
@@ -46,20 +43,7 @@ pub(crate) fn key_range(variant: Variant) -> Range
 pub(crate) fn salt_length(variant: Variant) -> usize
     ensures { (result ≡ salt_length_of variant) × (result ≤ 16) }
 {
-    match variant {
-        Variant::B => 16,
-        Variant::S => 8,
-    }
-}
-
-// The letter that stands for a variant.
-pub(crate) fn letter(variant: Variant) -> u8
-    ensures { result ∷ [] ≡ letter variant }
-{
-    match variant {
-        Variant::B => b'b',
-        Variant::S => b's',
-    }
+    2 * variant.word_size()
 }
 
 // A-Z, 0-9 and hyphen.

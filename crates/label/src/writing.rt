@@ -5,7 +5,7 @@ ghost use Rattle.lines.specs.Lines.{line_then};
 ghost use Rattle.label.specs.Labels.{write_answer, written};
 ghost use Rattle.label.specs.Meaning.{parts, label_text};
 
-use crate::{Label, rules};
+use crate::Label;
 use byte_strings::Bytes;
 use fault::{Fault, Refusal};
 
@@ -51,7 +51,7 @@ impl Label {
     {
         let mut out = Bytes::new();
         put(&mut out, b"kind=seal", b"");
-        put(&mut out, b"variant=", &[rules::letter(self.variant)]);
+        put(&mut out, b"variant=", &[self.variant.letter()]);
         put(
             &mut out,
             b"digest=",
