@@ -7,6 +7,7 @@ use crate::cut;
 use fault::{Fault, Refusal};
 use image::{Extent, Image, PageState};
 
+// Bytes and states are two buffers, since whoever reads a chip lends them so, and nothing is allocated to bring them together.
 // It has what it was made from; where that is refused, it has no bytes, and so no pages.
 // It holds no extent: a struct with a ghost field gets no proof beside a lent buffer in a type argument, as in a pair of pairs.
 #[derive(Drop)]

@@ -1,6 +1,7 @@
 // A byte string of at most N bytes, which contracts see as the list of its bytes.
 use std::marker::Model;
 
+// The library allocates nothing, so the bytes lie in place; the toolchain's `ArrayVec` is not `Copy`, which a label is.
 // The first `len` bytes of `all` are the string. The unused bytes are zero, so that equal strings are equal values.
 #[derive(Clone, Copy, PartialEq, Eq, Debug)]
 pub struct Bytes<const N: usize> {

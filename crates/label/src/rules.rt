@@ -21,6 +21,7 @@ fn longest(variant: Variant) -> u16
     8 * variant.word_size() as u16
 }
 
+// Digest and key have a range each, as they have a rule each; one function of both would take the lower end from its caller.
 pub(crate) fn digest_range(variant: Variant) -> Range
     ensures { result ≡ digest_range variant }
 {
