@@ -9,7 +9,7 @@ use image::{Extent, Image, PageState};
 
 // Bytes and states are two buffers, since whoever reads a chip lends them so, and nothing is allocated to bring them together.
 // It has what it was made from; where that is refused, it has no bytes, and so no pages.
-// It holds no extent: a struct with a ghost field gets no proof beside a lent buffer in a type argument, as in a pair of pairs.
+// Tried: to hold its extent with a ghost field, as a bench image does. A pair of the two then gets no proof as a type argument, so as a part of a pair.
 #[derive(Drop)]
 pub struct ChipDump<'a> {
     buffer: &'a [u8],
