@@ -141,7 +141,7 @@ impl Word for u64 {
     ghost xor_is = { Prim.search rules };
 
     fn mask(on: bool) -> u64 {
-        if on { 0xffff_ffff_ffff_ffff } else { 0 }
+        if on { u64::MAX } else { 0 }
     }
 
     fn low(t: u64) -> u64 {
@@ -216,7 +216,7 @@ impl Word for u32 {
     ghost xor_is = { Prim.search rules };
 
     fn mask(on: bool) -> u32 {
-        if on { 0xffff_ffff } else { 0 }
+        if on { u32::MAX } else { 0 }
     }
 
     fn low(t: u64) -> u32 {
@@ -228,12 +228,13 @@ impl Word for u32 {
     }
 
     fn load(bytes: [u8; 8]) -> u32 {
-        u32::from_le_bytes([bytes[0], bytes[1], bytes[2], bytes[3]])
+        let [a, b, c, d, ..] = bytes;
+        u32::from_le_bytes([a, b, c, d])
     }
 
     fn bytes(self) -> [u8; 8] {
-        let b = self.to_le_bytes();
-        [b[0], b[1], b[2], b[3], 0, 0, 0, 0]
+        let [a, b, c, d] = self.to_le_bytes();
+        [a, b, c, d, 0, 0, 0, 0]
     }
 
     fn plus(self, other: u32) -> u32 {

@@ -9,14 +9,14 @@ ghost use Rattle.stream.specs.Streams.{digest_answer, digest_out};
 use blake2::Variant;
 use fault::Fault;
 
-// The variant that a number from C names.
+// The variant that a number names: C passes no enum of ours.
 fn variant_of(number: u32) -> Variant
     ensures { result ≡ variant_of number }
 {
     if number == 0 { Variant::B } else { Variant::S }
 }
 
-// What C gets of an answer.
+// What C gets of an answer: a number, since it knows no `Result`.
 fn status_of(answer: Result<u64, Fault>) -> u32
     ensures { result ≡ status_of answer }
 {

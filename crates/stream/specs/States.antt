@@ -3,6 +3,8 @@ use Rattle.std.specs.Prelude.{ℕ, ◌+◌, Bool, List, ◌++◌, length}
 use Rattle.stream.specs.Hash.{ended}
 use Rattle.stream.specs.declared.state.State.{State}
 
+-- A state's type says which words it has, X, what the trait `Word` fixes for them, W, and their `^`, V.
+
 -- how many bytes went in
 abbrev pub count : {X W V : _} → State X W V → ℕ
 count s = s.chain.t + length s.wait.items

@@ -65,11 +65,6 @@ abbrev pub added_all : View → List (List ℕ) → View
 added_all v [] = v
 added_all v (piece ∷ pieces) = added_all (added v piece) pieces
 
--- the pieces, one after another
-abbrev pub joined : List (List ℕ) → List ℕ
-joined [] = []
-joined (piece ∷ pieces) = piece ++ joined pieces
-
 -- Begin, one add and finish in one call: d bytes of digest, a key of k bytes, n bytes of input and m bytes of output.
 abbrev pub digest_answer : Width → ℕ → ℕ → ℕ → ℕ → Result ℕ Fault
 digest_answer w d k n m = unless (begin_rows w d k ++ (add_rows 0 n ++ finish_rows d m)) (blocks w k n)

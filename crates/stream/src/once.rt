@@ -1,9 +1,10 @@
 // A digest in one call.
-ghost use Rattle.std.specs.Prelude.{◌≡◌, [], map, length};
+ghost use Rattle.std.specs.Prelude.{◌≡◌, [], length};
+ghost use Rattle.std.specs.List.{flat_map};
 ghost use Rattle.blake2.specs.Width.{blake2b, blake2s};
 ghost use Rattle.stream.specs.Examples.{abc, abc_b, abc_s};
 ghost use Rattle.stream.specs.Hash.{digest};
-ghost use Rattle.stream.specs.Streams.{joined, digest_answer, digest_out};
+ghost use Rattle.stream.specs.Streams.{digest_answer, digest_out};
 
 use crate::Stream;
 use blake2::Word;
@@ -16,8 +17,8 @@ pub fn digest_pieces<W: Word>(
     pieces: &[&[u8]],
     out: &mut [u8],
 ) -> Result<u64, Fault>
-    ensures answer { result ≡ digest_answer W.Word.width digest_len (length key.now) (length (joined (map (λ x. x.now) pieces.now))) (length out.old) }
-    ensures out { out.new ≡ digest_out W.Word.width digest_len key.now (joined (map (λ x. x.now) pieces.now)) out.old }
+    ensures answer { result ≡ digest_answer W.Word.width digest_len (length key.now) (length (flat_map (λ piece. piece.now) pieces.now)) (length out.old) }
+    ensures out { out.new ≡ digest_out W.Word.width digest_len key.now (flat_map (λ piece. piece.now) pieces.now) out.old }
 {
     Stream::<W>::check(digest_len, key)?;
     let mut stream = Stream::<W>::begin(digest_len, key);

@@ -28,9 +28,15 @@ impl<W: Word> State<W> {
         ensures none { result.chain.t ≡ 0 }
         ensures value { result.chain.h ≡ initial W.Word.width p.now }
     {
+        let mut wait = ArrayVec::new();
+        if !key.is_empty() {
+            let zeros = &[0; 128][key.len()..block_bytes::<W>()];
+            wait.try_extend_from_slice(key).unwrap();
+            wait.try_extend_from_slice(zeros).unwrap();
+        }
         State {
             chain: Chain::begin(p),
-            wait: key_block::<W>(key),
+            wait,
         }
     }
 
@@ -75,19 +81,4 @@ impl<W: Word> State<W> {
         let all = self.chain.t + self.wait.len() as u64;
         all.saturating_sub(1) / block_bytes::<W>() as u64 + 1
     }
-}
-
-// A key and zeros after it, or nothing where there is no key.
-fn key_block<W: Word>(key: &[u8]) -> ArrayVec<u8, 128>
-    requires { length key.now ≤ longest W.Word.width }
-    ensures { result.items ≡ key_block W.Word.width key.now }
-{
-    let mut block = ArrayVec::new();
-    if key.is_empty() {
-        return block;
-    }
-    block.try_extend_from_slice(key).unwrap();
-    let zeros = &[0; 128][key.len()..block_bytes::<W>()];
-    block.try_extend_from_slice(zeros).unwrap();
-    block
 }

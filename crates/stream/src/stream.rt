@@ -1,9 +1,10 @@
 // A stream of bytes that is digested, and the calls on it.
 ghost use Rattle.std.specs.Prelude.{◌≡◌, ℕ, ◌+◌, ◌^◌, ◌≤◌, List, length, Ok};
+ghost use Rattle.std.specs.List.{concat};
 ghost use Rattle.blake2.specs.Width.{longest};
 ghost use Rattle.stream.specs.Hash.{sequential, digest, key_block};
 ghost use Rattle.stream.specs.States.{count};
-ghost use Rattle.stream.specs.Streams.{fresh, begin_answer, begun, add_answer, added, added_all, finish_answer, finished, joined};
+ghost use Rattle.stream.specs.Streams.{fresh, begin_answer, begun, add_answer, added, added_all, finish_answer, finished};
 
 use crate::state::State;
 use blake2::Word;
@@ -27,6 +28,7 @@ impl<W: Word> Stream<W> {
     ghost use Rattle.stream.specs.Views.{view_of};
 
     // Whether a stream can have this digest length and this key: 11 or 12 where it cannot.
+    // The two go from call to call as they came: a struct of them would be made for one call, and say no more than the names do.
     pub fn check(digest_len: usize, key: &[u8]) -> Result<(), Fault>
         ensures { result ≡ begin_answer W.Word.width digest_len (length key.now) }
     {
@@ -82,7 +84,7 @@ impl<W: Word> Stream<W> {
     pub fn finish(self, out: &mut [u8]) -> Result<u64, Fault>
         ensures answer { result ≡ finish_answer (view_of self) (length out.old) }
         ensures out { out.new ≡ finished (view_of self) out.old }
-        ensures joined { (d : ℕ) (key : List ℕ) (pieces : List (List ℕ)) → begin_answer W.Word.width d (length key) ≡ Ok tt → length (joined pieces) ≤ 2 ^ 40 → view_of self ≡ added_all (begun W.Word.width d key) pieces → length out.old ≡ d → out.new ≡ digest W.Word.width d key (joined pieces) }
+        ensures joined { (d : ℕ) (key : List ℕ) (pieces : List (List ℕ)) → begin_answer W.Word.width d (length key) ≡ Ok tt → length (concat pieces) ≤ 2 ^ 40 → view_of self ≡ added_all (begun W.Word.width d key) pieces → length out.old ≡ d → out.new ≡ digest W.Word.width d key (concat pieces) }
     {
         if out.len() != self.digest_len {
             return Err(Fault::new(Refusal::DigestBuffer, 0));
