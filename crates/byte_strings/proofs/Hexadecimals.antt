@@ -1,26 +1,30 @@
 -- Hexadecimal text: what its reader and its writer do at each byte, and that they are inverse to each other.
-use Rattle.std.proofs.Common.{◌≡◌, ℕ, zero, suc, ◌+◌, ◌-◌, ◌*◌, ◌/◌, ◌%◌, ◌<◌, ◌≤◌, Bool, true, false, cond, ◌&&◌, eqb, ltb, leb, List, [], ◌∷◌, ◌++◌, length, get_or, take, Some, None, Option, sym, refl, ap, subst, ◌∙◌, ◌⊎◌, ⊎_elim, append_assoc, append-nil, arith, length-append}
+use Rattle.std.proofs.Common.{◌≡◌, ℕ, zero, suc, ◌+◌, ◌*◌, ◌/◌, ◌%◌, ◌<◌, ◌≤◌, Bool, true, false, cond, ◌&&◌, eqb, leb, List, [], ◌∷◌, ◌++◌, length, get_or, take, Some, None, Option, option_map, sym, refl, ap, subst, ◌∙◌, ◌⊎◌, ⊎_elim, append_assoc, append-nil, arith, length-append}
 use Rattle.std.proofs.lemmas.List.{take_more, length-take-le}
 use Rattle.std.proofs.lemmas.Bool.Decides.{nat_tests}
-use Rattle.std.proofs.lemmas.Bool.{eqb-true, lt-ltb, le-ltb, le-leb, lt-leb, ltb-true, leb-true, and_parts, and_from, cases_lt, cond-true, cond-false}
-use Rattle.std.specs.Int.{is_in_range}
+use Rattle.std.proofs.lemmas.Bool.{eqb-true, le-leb, lt-leb, and_parts, cases_lt, cond-true, cond-false}
 use Rattle.std.specs.Char.{digit_char}
+use Rattle.std.specs.Option.{option_zip, option_and_then}
 use Rattle.hex.specs.Hex.{lower_digits, encode_lower, encode_with}
-use Rattle.byte_strings.specs.Hexadecimal.{hex, nibble, unhex, hex_within}
+use Rattle.byte_strings.specs.Hexadecimal.{hex, nibble, digit_pair, unhex, hex_within}
 use Rattle.byte_strings.specs.Strings.{AreBytes}
 
 -- reading: the next pair of digits
 
-pub unhex_more : (bs pair rest : List ℕ) {h l : ℕ} → length pair ≡ 2 → nibble (get_or pair 0 0) ≡ h → h < 16 → nibble (get_or pair 1 0) ≡ l → l < 16 → unhex bs (pair ++ rest) ≡ unhex (bs ++ ((16 * h + l) ∷ [])) rest
-unhex_more bs [] rest n eh hh el hl = absurd (omega arith)
-unhex_more bs (c ∷ []) rest n eh hh el hl = absurd (omega arith)
-unhex_more bs (c ∷ (d ∷ [])) rest n eh hh el hl = grind (arith, nat_tests)
-unhex_more bs (c ∷ (d ∷ (x ∷ v))) rest n eh hh el hl = absurd (omega arith)
+pub unhex_more : (bs pair rest : List ℕ) {h l : ℕ} → length pair ≡ 2 → Some h ≡ nibble (get_or pair 0 0) → Some l ≡ nibble (get_or pair 1 0) → unhex bs (pair ++ rest) ≡ unhex (bs ++ ((16 * h + l) ∷ [])) rest
+unhex_more bs [] rest n eh el = absurd (omega arith)
+unhex_more bs (c ∷ []) rest n eh el = absurd (omega arith)
+unhex_more bs (c ∷ (d ∷ [])) rest n eh el = rw (← eh, ← el)
+unhex_more bs (c ∷ (d ∷ (x ∷ v))) rest n eh el = absurd (omega arith)
 
-pub unhex_stop : (bs pair rest : List ℕ) → length pair ≡ 2 → (nibble (get_or pair 0 0) ≡ 16) ⊎ (nibble (get_or pair 1 0) ≡ 16) → unhex bs (pair ++ rest) ≡ None
+pub unhex_stop : (bs pair rest : List ℕ) → length pair ≡ 2 → (None ≡ nibble (get_or pair 0 0)) ⊎ (None ≡ nibble (get_or pair 1 0)) → unhex bs (pair ++ rest) ≡ None
 unhex_stop bs [] rest n e = absurd (omega arith)
 unhex_stop bs (c ∷ []) rest n e = absurd (omega arith)
-unhex_stop bs (c ∷ (d ∷ [])) rest n e = grind (arith, nat_tests)
+unhex_stop bs (c ∷ (d ∷ [])) rest n e = ⊎_elim (λ h. rw (← h)) (λ l. rw (← l) (none (nibble c))) e
+  where
+    none : (o : Option ℕ) → option_and_then (λ b. unhex (bs ++ (b ∷ [])) rest) (option_map (λ p. 16 * p.0 + p.1) (option_zip o None)) ≡ None
+    none None = refl
+    none (Some x) = refl
 unhex_stop bs (c ∷ (d ∷ (x ∷ v))) rest n e = absurd (omega arith)
 
 -- no bytes: an odd number of digits, too many, or one of them is not a digit
@@ -32,8 +36,11 @@ none false h = refl
 unhex_odd : (bs v : List ℕ) → (length v % 2 ≡ 0 → ⊥) → unhex bs v ≡ None
 unhex_odd bs [] e = absurd (e refl)
 unhex_odd bs (c ∷ []) e = refl
-unhex_odd bs (c ∷ (d ∷ v)) e =
-    none (ltb (nibble c) 16 && ltb (nibble d) 16) (unhex_odd (bs ++ ((16 * nibble c + nibble d) ∷ [])) v (λ z. e (omega arith)))
+unhex_odd bs (c ∷ (d ∷ v)) e = go (λ b. unhex_odd (bs ++ (b ∷ [])) v (λ z. e (omega arith))) (digit_pair c d)
+  where
+    go : ((b : ℕ) → unhex (bs ++ (b ∷ [])) v ≡ None) → (o : Option ℕ) → option_and_then (λ b. unhex (bs ++ (b ∷ [])) v) o ≡ None
+    go ih None = refl
+    go ih (Some b) = ih b
 
 pub hex_within_odd : (n : ℕ) (v : List ℕ) → (length v % 2 ≡ 0 → ⊥) → hex_within n v ≡ None
 hex_within_odd n v e = none (leb (length v / 2) n) (unhex_odd [] v e)
@@ -88,37 +95,18 @@ encode_lower_is_hex (b ∷ bs) h =
 
 -- the two are inverse
 
-nibble_of : (d : ℕ) → d < 16 → nibble (digit_char d) ≡ d
-nibble_of d h =
-    ⊎_elim
-    (λ l. ap nibble (cond-true (ltb d 10) (48 + d) (87 + d) (lt-ltb d 10 l)) ∙ rw (le-leb 48 (48 + d) (omega arith), le-leb (48 + d) 57 (omega arith)) (omega arith))
-    (λ g. ap nibble (cond-false (ltb d 10) (48 + d) (87 + d) (le-ltb d 10 g)) ∙ rw (le-leb 48 (87 + d) (omega arith), lt-leb (87 + d) 57 (omega arith), le-leb 97 (87 + d) (omega arith), le-leb (87 + d) 102 (omega arith)) (omega arith))
-    (cases_lt d 10)
+nibble_of : (d : ℕ) → d < 16 → nibble (digit_char d) ≡ Some d
+nibble_of d h = grind (arith, nat_tests)
 
 unhex-hex : (bs ys : List ℕ) → AreBytes ys → unhex bs (hex ys) ≡ Some (bs ++ ys)
 unhex-hex bs [] h = ap Some (sym (append-nil bs))
 unhex-hex bs (y ∷ ys) h =
     let small = h 0 in
-    let eh = nibble_of (y / 16) (omega arith) in
-    let el = nibble_of (y % 16) (omega arith) in
-    let both : (ltb (nibble (digit_char (y / 16))) 16 && ltb (nibble (digit_char (y % 16))) 16) ≡ true = and_from _ _ (lt-ltb (nibble (digit_char (y / 16))) 16 (omega arith)) (lt-ltb (nibble (digit_char (y % 16))) 16 (omega arith)) in
-    let same : 16 * nibble (digit_char (y / 16)) + nibble (digit_char (y % 16)) ≡ y = omega arith in
-    cond-true (ltb (nibble (digit_char (y / 16))) 16 && ltb (nibble (digit_char (y % 16))) 16) _ None both ∙ ap (λ x. unhex (bs ++ (x ∷ [])) (hex ys)) same ∙ unhex-hex (bs ++ (y ∷ [])) ys (λ k. h (suc k)) ∙ ap Some (append_assoc bs (y ∷ []) ys)
+    let same : 16 * (y / 16) + y % 16 ≡ y = omega arith in
+    rw (nibble_of (y / 16) (omega arith), nibble_of (y % 16) (omega arith), same) (unhex-hex (bs ++ (y ∷ [])) ys (λ k. h (suc k)) ∙ ap Some (append_assoc bs (y ∷ []) ys))
 
-char_of : (c : ℕ) → ltb (nibble c) 16 ≡ true → digit_char (nibble c) ≡ c
-char_of c e = go (is_in_range 48 57 c) (is_in_range 97 102 c) refl refl (ltb-true (cond (is_in_range 48 57 c) (c - 48) (cond (is_in_range 97 102 c) (c - 87) 16)) 16 e)
-  where
-    go : (a b : Bool) → is_in_range 48 57 c ≡ a → is_in_range 97 102 c ≡ b → cond a (c - 48) (cond b (c - 87) 16) < 16 → digit_char (cond a (c - 48) (cond b (c - 87) 16)) ≡ c
-    go true b i j h =
-        let q = and_parts (leb 48 c) (leb c 57) i in
-        let lo = leb-true 48 c q.0 in
-        let hi = leb-true c 57 q.1 in
-        rw (lt-ltb (c - 48) 10 (omega arith)) (omega arith)
-    go false true i j h =
-        let q = and_parts (leb 97 c) (leb c 102) j in
-        let lo = leb-true 97 c q.0 in
-        rw (le-ltb (c - 87) 10 (omega arith)) (omega arith)
-    go false false i j h = absurd (omega arith)
+char_of : (c d : ℕ) → nibble c ≡ Some d → (c ≡ digit_char d) × (d < 16)
+char_of c d e = grind (arith, nat_tests)
 
 bytes_cons : (b : ℕ) (bs : List ℕ) → b < 256 → AreBytes bs → AreBytes (b ∷ bs)
 bytes_cons b bs h all zero = h
@@ -126,22 +114,22 @@ bytes_cons b bs h all (suc k) = all k
 
 unhex_is_hex : (bs v : List ℕ) {out : List ℕ} → unhex bs v ≡ Some out → (ys : List ℕ) × (out ≡ bs ++ ys) × (v ≡ hex ys) × AreBytes ys
 unhex_is_hex bs [] {out} e = let i : bs ≡ out = cc in ([], sym i ∙ sym (append-nil bs), refl, λ k. omega arith)
-unhex_is_hex bs (c ∷ []) e = let z : ◌≡◌ {A = ℕ} 0 1 = cc in absurd (omega arith)
-unhex_is_hex bs (c ∷ (d ∷ v)) {out} e = go (λ o. unhex_is_hex (bs ++ ((16 * nibble c + nibble d) ∷ [])) v {out = o}) (ltb (nibble c) 16 && ltb (nibble d) 16) refl e
+unhex_is_hex bs (c ∷ []) e = cc
+unhex_is_hex bs (c ∷ (d ∷ v)) {out} e = go (λ b. unhex_is_hex (bs ++ (b ∷ [])) v) (nibble c) (nibble d) refl refl e
   where
-    go : ((out : List ℕ) → unhex (bs ++ ((16 * nibble c + nibble d) ∷ [])) v ≡ Some out → (ys : List ℕ) × (out ≡ (bs ++ ((16 * nibble c + nibble d) ∷ [])) ++ ys) × (v ≡ hex ys) × AreBytes ys) → (b : Bool) → (ltb (nibble c) 16 && ltb (nibble d) 16) ≡ b → cond b (unhex (bs ++ ((16 * nibble c + nibble d) ∷ [])) v) None ≡ Some out → (ys : List ℕ) × (out ≡ bs ++ ys) × (c ∷ (d ∷ v) ≡ hex ys) × AreBytes ys
-    go ih false t h = let z : ◌≡◌ {A = ℕ} 0 1 = cc in absurd (omega arith)
-    go ih true t h =
-        let x = 16 * nibble c + nibble d in
-        let q = and_parts (ltb (nibble c) 16) (ltb (nibble d) 16) t in
-        let r = ih out h in
-        let cl = ltb-true (nibble c) 16 q.0 in
-        let dl = ltb-true (nibble d) 16 q.1 in
-        let high : nibble c ≡ x / 16 = omega arith in
-        let low : nibble d ≡ x % 16 = omega arith in (
+    go : ((b : ℕ) → unhex (bs ++ (b ∷ [])) v ≡ Some out → (ys : List ℕ) × (out ≡ (bs ++ (b ∷ [])) ++ ys) × (v ≡ hex ys) × AreBytes ys) → (h l : Option ℕ) → nibble c ≡ h → nibble d ≡ l → option_and_then (λ b. unhex (bs ++ (b ∷ [])) v) (option_map (λ p. 16 * p.0 + p.1) (option_zip h l)) ≡ Some out → (ys : List ℕ) × (out ≡ bs ++ ys) × (c ∷ (d ∷ v) ≡ hex ys) × AreBytes ys
+    go ih None l i j t = cc
+    go ih (Some h) None i j t = cc
+    go ih (Some h) (Some l) i j t =
+        let x = 16 * h + l in
+        let p = char_of c h i in
+        let q = char_of d l j in
+        let r = ih x t in
+        let high : h ≡ x / 16 = omega arith in
+        let low : l ≡ x % 16 = omega arith in (
           x ∷ r.0,
           r.1 ∙ append_assoc bs (x ∷ []) r.0,
-          λ i. (sym (char_of c q.0) ∙ ap digit_char high) i ∷ ((sym (char_of d q.1) ∙ ap digit_char low) i ∷ r.2 i),
+          λ k. (p.0 ∙ ap digit_char high) k ∷ ((q.0 ∙ ap digit_char low) k ∷ r.2 k),
           bytes_cons x r.0 (omega arith) r.3,
         )
 

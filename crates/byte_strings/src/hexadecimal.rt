@@ -1,5 +1,5 @@
 // Bytes as hexadecimal text: two lower-case digits to a byte, the high one first.
-ghost use Rattle.std.specs.Prelude.{◌≡◌, ◌<◌, MatchOption};
+ghost use Rattle.std.specs.Prelude.{◌≡◌, ◌<◌, IfSome};
 ghost use Rattle.std.specs.Char.{digit_char};
 ghost use Rattle.byte_strings.specs.Hexadecimal.{hex, nibble, hex_within};
 ghost use Rattle.byte_strings.specs.Strings.{append_answer, appended};
@@ -31,6 +31,7 @@ impl<const N: usize> Bytes<N> {
         if bytes.len() > (N - self.len()) / 2 {
             return Err(TooLong);
         }
+        // The crate `hex` would be no plainer here: its answer has a refusal of its own to rule out.
         for b in bytes {
             self.push(hex_char(*b / 16));
             self.push(hex_char(*b % 16));
@@ -41,7 +42,8 @@ impl<const N: usize> Bytes<N> {
 
 // The value of a lower-case hexadecimal digit.
 fn hex_digit(c: u8) -> Option<u8>
-    ensures { MatchOption result (nibble c ≡ 16) (λ d. (nibble c ≡ d) × (d < 16)) }
+    ensures value { result ≡ nibble c }
+    ensures small { IfSome result (λ d. d < 16) }
 {
     match c {
         b'0'..=b'9' => Some(c - b'0'),

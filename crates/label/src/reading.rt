@@ -51,6 +51,7 @@ fn nine_lines(lines: &mut Lines<'_>) -> Result<Label, Fault>
     let page = lines.number(b"page=", rules::PAGE)?;
     let salt = lines.hexadecimal(b"salt=", rules::salt_length(variant))?;
     let layout = layout(lines, b"layout=", variant)?;
+    // The ranges of these four numbers end below 256, so that `as` loses nothing.
     Ok(Label {
         variant,
         digest: digest as u8,

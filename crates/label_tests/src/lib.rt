@@ -22,14 +22,14 @@ mod tests {
         let label = Label::read(EXAMPLE)?;
         assert_eq!(rt; label.variant, Variant::B);
         assert_eq!(rt; label.page, 1024);
-        assert!(rt; label.layout.as_slice() == b"CLUTCH-07".as_slice());
+        assert_eq!(rt; label.layout.as_slice(), b"CLUTCH-07".as_slice());
         assert_eq!(rt;
             label,
             Label::new(Variant::B, 32, 0, 4, 6, 1024, &[0; 16], b"CLUTCH-07")?
         );
         let mut out = [7; 125];
         assert_eq!(rt; label.write(&mut out)?, 123);
-        assert!(rt; &out[0..123] == EXAMPLE.as_slice());
+        assert_eq!(rt; &out[0..123], EXAMPLE.as_slice());
         assert!(rt; out[123] == 7 && out[124] == 7);
         let mut short = [7; 122];
         assert_eq!(rt;
@@ -80,7 +80,7 @@ mod tests {
     fn variant_s_has_a_shorter_salt_and_layout(rt: HostRuntime) -> Result<(), Fail> {
         let label = Label::new(Variant::S, 32, 32, 2, 13, 64, &[171; 8], b"GEAR-001")?;
         let text = label.text();
-        assert!(rt; Label::read(text.as_slice())? == label);
+        assert_eq!(rt; Label::read(text.as_slice())?, label);
         assert_eq!(rt;
             Label::new(Variant::S, 32, 32, 2, 13, 64, &[171; 16], b"GEAR-001"),
             Err(Fault::new(Refusal::LineForm, 8))
@@ -103,7 +103,7 @@ mod tests {
         assert_eq!(rt; refusal(&longer), Some((Refusal::BytesLeft, 10)));
         let (label, length) = Label::read_front(&longer)?;
         assert_eq!(rt; length, 123);
-        assert!(rt; label == Label::read(EXAMPLE)?);
+        assert_eq!(rt; label, Label::read(EXAMPLE)?);
         Ok(())
     }
 

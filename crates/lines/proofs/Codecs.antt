@@ -1,5 +1,5 @@
 -- The kinds of lines: what each reads is what it writes.
-use Rattle.std.proofs.Common.{◌≡◌, ℕ, ◌/◌, ◌%◌, ◌<◌, ◌≤◌, Bool, true, false, cond, not, eqb, List, [], ◌∷◌, length, Some, None, Ok, decimal, Option, refl, ap, subst, ◌∙◌, ⊎_elim, arith}
+use Rattle.std.proofs.Common.{◌≡◌, ℕ, ◌/◌, ◌%◌, ◌<◌, ◌≤◌, Bool, true, false, cond, not, eqb, List, [], ◌∷◌, length, Some, None, Ok, decimal, Option, refl, ap, ◌∙◌, ⊎_elim, arith}
 use Rattle.std.proofs.lemmas.Fmt.{digits_decimal}
 use Rattle.std.proofs.ByRecursion.{All-from_get_or}
 use Rattle.std.proofs.lemmas.Str.Parse.{numerals_by_value, tells_all_ascii_digits, not_in_digits}
@@ -55,16 +55,23 @@ number_has n range x h small = (
   ap (λ o. then (formed n o) (λ y. unless (on (not (inside range y)) NumberRange n ∷ []) y)) (decimal_is_read x small) ∙ ap (λ b. unless (on (not b) NumberRange n ∷ []) x) h,
 )
 
-pub bytes_faithful : (n : ℕ) (most size : ℕ) → Faithful (bytes_line n [] most size)
-bytes_faithful n most size v bs h = go (hex_within most v) refl (formed_back n (exactly size (hex_within most v)) h)
+read_bytes_back : (n most size : ℕ) (v : List ℕ) {bs : List ℕ} → read_bytes n most size v ≡ Ok bs → hex_within most v ≡ Some bs
+read_bytes_back n most size v {bs} h = go (hex_within most v) (formed_back n (exactly size (hex_within most v)) h)
   where
-    go : (o : Option (List ℕ)) → hex_within most v ≡ o → exactly size o ≡ Some bs → v ≡ hex bs
-    go None e i = absurd (never_some i)
-    go (Some w) e i = hex_within_is_hex most v e ∙ ap hex (same (eqb (length w) size) i)
-      where
-        same : (b : Bool) → cond b (Some w) None ≡ Some bs → w ≡ bs
-        same true j = cc
-        same false j = absurd (never_some j)
+    same : (w : List ℕ) (b : Bool) → cond b (Some w) None ≡ Some bs → w ≡ bs
+    same w true j = cc
+    same w false j = absurd (never_some j)
+
+    go : (o : Option (List ℕ)) → exactly size o ≡ Some bs → o ≡ Some bs
+    go None i = absurd (never_some i)
+    go (Some w) i = ap Some (same w (eqb (length w) size) i)
+
+pub bytes_faithful : (n : ℕ) (most size : ℕ) → Faithful (bytes_line n [] most size)
+bytes_faithful n most size v bs h = hex_within_is_hex most v (read_bytes_back n most size v h)
+
+-- what is read are bytes
+pub bytes_small : (n most size : ℕ) (v : List ℕ) {bs : List ℕ} → read_bytes n most size v ≡ Ok bs → AreBytes bs
+bytes_small n most size v h = hex_within_bytes most v (read_bytes_back n most size v h)
 
 hex_clean : (bs : List ℕ) → Clean (hex bs)
 hex_clean [] = tt
@@ -78,16 +85,3 @@ bytes_has n most size bs le e small = (
   hex_clean bs,
   ap (λ o. formed n (exactly size o)) (hex_is_read most bs (omega arith) small) ∙ ap (formed n) (cond-true (eqb (length bs) size) (Some bs) None (eq-eqb (length bs) size e)),
 )
-
--- what is read are bytes
-pub bytes_small : (n most size : ℕ) (v : List ℕ) {bs : List ℕ} → read_bytes n most size v ≡ Ok bs → AreBytes bs
-bytes_small n most size v {bs} h =
-    go (hex_within most v) refl (formed_back n (exactly size (hex_within most v)) h)
-  where
-    go : (o : Option (List ℕ)) → hex_within most v ≡ o → exactly size o ≡ Some bs → AreBytes bs
-    go None e i = absurd (never_some i)
-    go (Some w) e i = same (eqb (length w) size) i
-      where
-        same : (b : Bool) → cond b (Some w) None ≡ Some bs → AreBytes bs
-        same true j = let z : w ≡ bs = cc in subst AreBytes z (hex_within_bytes most v e)
-        same false j = absurd (never_some j)

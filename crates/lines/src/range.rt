@@ -1,4 +1,4 @@
-// The numbers from `low` to `high`, both among them. The standard `RangeInclusive` would say no more plainly what the rules are: it also holds whether it was walked to its end, of which each of them would have to speak.
+// The numbers from `low` to `high`, both among them. The standard `RangeInclusive` is no plainer here: it also holds whether it was walked to its end, of which each rule would have to speak.
 ghost use Rattle.std.specs.Prelude.{◌≡◌};
 ghost use Rattle.std.specs.Int.{is_in_range};
 

@@ -14,21 +14,19 @@ returns-then-digits-ne0 g c =
 pub returns-in_err-high : goal.returns-in_err-high
 returns-in_err-high g c =
     let step = c.in-Some.ensures.steps in
-    let stop = unhex_stop c.loop-pair.bytes c.in-Some.pair.now c.next.new.self.rest.now (omega (arith, step)) (inl c.in_err-high.ensures) in
+    let stop = unhex_stop c.loop-pair.bytes c.in-Some.pair.now c.next.new.self.rest.now (omega (arith, step)) (inl c.in_err-high.ensures.value) in
     c.from_residual.ensures ∙ sym (hex_within_none g.row.N c.args.digits.now (sym c.loop-pair.invariant.read ∙ ap (unhex c.loop-pair.bytes) step.1.0 ∙ stop))
 
 pub returns-in_err-low : goal.returns-in_err-low
 returns-in_err-low g c =
     let step = c.in-Some.ensures.steps in
-    let stop = unhex_stop c.loop-pair.bytes c.in-Some.pair.now c.next.new.self.rest.now (omega (arith, step)) (inr c.in_err-low.ensures) in
+    let stop = unhex_stop c.loop-pair.bytes c.in-Some.pair.now c.next.new.self.rest.now (omega (arith, step)) (inr c.in_err-low.ensures.value) in
     c.from_residual-in_err-low.ensures ∙ sym (hex_within_none g.row.N c.args.digits.now (sym c.loop-pair.invariant.read ∙ ap (unhex c.loop-pair.bytes) step.1.0 ∙ stop))
 
 pub loop-pair-preserved : goal.loop-pair-preserved
 loop-pair-preserved g c =
     let step = c.in-Some.ensures.steps in
-    let high = c.in_ok-high.ensures in
-    let low = c.in_ok-low.ensures in
-    let more = unhex_more c.loop-pair.bytes c.in-Some.pair.now c.next.new.self.rest.now (omega (arith, step)) high.0 high.1 low.0 low.1 in
+    let more = unhex_more c.loop-pair.bytes c.in-Some.pair.now c.next.new.self.rest.now (omega (arith, step)) c.in_ok-high.ensures.value c.in_ok-low.ensures.value in
     record {
       size = step.0 ∙ c.loop-pair.invariant.size;
       left = omega (arith, step, ap length step.1.0, length-append c.in-Some.pair.now c.next.new.self.rest.now, ap length c.push.ensures, length-append c.loop-pair.bytes ((16 * c.in_ok-high.high + c.in_ok-low.low) ∷ []));
