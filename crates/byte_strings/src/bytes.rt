@@ -3,7 +3,6 @@ use std::marker::Model;
 
 // The library allocates nothing, so the bytes lie in place; the toolchain's `ArrayVec` is not `Copy`, which a label is.
 // The first `len` bytes of `all` are the string. The unused bytes are zero, so that equal strings are equal values.
-// The crate `arrayvec` has such a type, which is not `Copy`: a label is.
 #[derive(Clone, Copy, PartialEq, Eq, Debug)]
 pub struct Bytes<const N: usize> {
     pub(crate) all: [u8; N],
