@@ -35,7 +35,10 @@ pub(crate) fn parameter_block(label: &Label, position: Position) -> [u8; 64]
     let (offset_length, zeros_length) = lengths(label.variant);
     let offset = u64::from(position.offset).to_le_bytes();
     let mut block = Bytes::new();
-    put(&mut block, &[label.digest, label.key, label.fanout, label.depth]);
+    put(
+        &mut block,
+        &[label.digest, label.key, label.fanout, label.depth],
+    );
     put(&mut block, &u32::from(label.page).to_le_bytes());
     put(&mut block, &offset[..offset_length]);
     put(&mut block, &[position.depth, label.digest]);
