@@ -1,12 +1,12 @@
 // One node: its label and key, its position in the tree, and its input.
-use anyhow::{Context, bail};
+use anyhow::Context;
 use blake2::Variant;
 use blake2_node::{Blake2bNode, Blake2sNode};
 use byte_strings::{Bytes, hex_string};
 use fault::Fault;
 use label::Label;
 use nodehash::{NodeHash, Position};
-use std::alloc::Global;
+use std::str::SplitWhitespace;
 
 #[derive(Drop)]
 struct Node {
@@ -19,7 +19,7 @@ struct Node {
 
 // Hashes the node of a line, and prints its digest and blocks.
 pub(crate) fn answer(rt: &HostRuntime, line: &str) -> anyhow::Result<()> {
-    let node = Node::read(rt.alloc(), line)?;
+    let node = Node::read(&mut line.split_whitespace())?;
     match &node.label {
         Ok(label) => node.print(rt, *label)?,
         Err(fault) => println!(rt; "refused {fault}")?,
@@ -28,46 +28,33 @@ pub(crate) fn answer(rt: &HostRuntime, line: &str) -> anyhow::Result<()> {
 }
 
 impl Node {
-    fn read(heap: Global, line: &str) -> anyhow::Result<Node> {
-        let words = line.split_whitespace().collect::<Vec<&str>>(heap)?;
-        let [
-            variant,
-            digest,
-            key,
-            fanout,
-            depth,
-            page,
-            salt,
-            layout,
-            node_depth,
-            node_offset,
-            last,
-            input,
-            ..
-        ] = words.as_slice()
-        else {
-            bail!("a word is missing");
-        };
-        let key = bytes::<64>(key)?;
-        let salt = bytes::<16>(salt)?;
+    fn read(words: &mut SplitWhitespace) -> anyhow::Result<Node> {
+        let variant = Variant::try_from(word(words)?.as_bytes()).unwrap_or(Variant::S);
+        let digest = word(words)?.parse::<u8>()?;
+        let key = bytes::<64>(word(words)?)?;
+        let fanout = word(words)?.parse::<u8>()?;
+        let depth = word(words)?.parse::<u8>()?;
+        let page = word(words)?.parse::<u16>()?;
+        let salt = bytes::<16>(word(words)?)?;
+        let layout = word(words)?.as_bytes();
         Ok(Node {
             label: Label::new(
-                Variant::try_from(variant.as_bytes()).unwrap_or(Variant::S),
-                digest.parse::<u8>()?,
+                variant,
+                digest,
                 key.len() as u8,
-                fanout.parse::<u8>()?,
-                depth.parse::<u8>()?,
-                page.parse::<u16>()?,
+                fanout,
+                depth,
+                page,
                 salt.as_slice(),
-                layout.as_bytes(),
+                layout,
             ),
             key,
             position: Position {
-                depth: node_depth.parse::<u8>()?,
-                offset: node_offset.parse::<u32>()?,
+                depth: word(words)?.parse::<u8>()?,
+                offset: word(words)?.parse::<u32>()?,
             },
-            last: *last == "1",
-            input: bytes::<4096>(input)?,
+            last: word(words)? == "1",
+            input: bytes::<4096>(word(words)?)?,
         })
     }
 
@@ -91,6 +78,10 @@ impl Node {
     fn hash<H: NodeHash>(&self, by: &H, out: &mut [u8]) -> Result<u64, Fault> {
         by.hash(self.position, self.last, self.input.as_slice(), out)
     }
+}
+
+fn word<'a>(words: &mut SplitWhitespace<'a>) -> anyhow::Result<&'a str> {
+    words.next().context("a word is missing")
 }
 
 fn bytes<const N: usize>(digits: &str) -> anyhow::Result<Bytes<N>> {

@@ -11,7 +11,7 @@ use stream::Stream;
 // How many bytes are read at a time.
 const PIECE: usize = 65536;
 
-// Digests every file, also after one that fails.
+// Digests every file, also after one that fails: so whether one failed is kept, and no failure.
 pub(crate) fn run(rt: &HostRuntime, options: &DigestOptions) -> Result<(), Failure> {
     let key = match &options.key {
         Some(file) => fs::read(rt, file.as_str())?,
@@ -72,7 +72,7 @@ fn digest_file<W: Word>(
     digest_all(rt, stream, &mut File::open(rt, file)?, out)
 }
 
-// Adds all that there is to read, piece by piece, and finishes.
+// Adds all that there is to read, piece by piece, and finishes. The count only bounds the loop: no proof knows that a file ends.
 fn digest_all<W: Word, R: Read>(
     rt: &HostRuntime,
     mut stream: Stream<W>,
