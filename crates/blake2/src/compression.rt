@@ -5,6 +5,7 @@ ghost use Rattle.blake2.specs.Compression.{add, turn, mix, round, xor_at, start,
 use crate::schedule::{Row, rows};
 use crate::{Word, Words};
 
+// The places in a vector are numerals in each call, so a type for a place below 16 would only wrap them.
 impl<W: Word> Words<W, 16> {
     // v[i] := v[i] + v[j] + x
     fn add(&mut self, i: usize, j: usize, x: W)
@@ -98,7 +99,7 @@ impl<W: Word> Words<W, 16> {
 }
 
 impl<W: Word> Words<W, 8> {
-    // h[i] := h[i] ^ v[i] ^ v[i + 8], as the standard has it, by the index: a closure over all eight would need a clause that says the same again.
+    // h[i] := h[i] ^ v[i] ^ v[i + 8], as the standard has it, by the index: after a loop over `iter_mut` no word is known, and a closure over all eight would need a clause that says the same again.
     fn feed(&mut self, v: &Words<W, 16>, i: usize)
         requires { i < 8 }
         ensures { self.new ≡ feed v.now i self.old }
@@ -108,7 +109,7 @@ impl<W: Word> Words<W, 8> {
 
     // The compression function: the block's words m go into the chain value.
     // `t` counts the bytes up to the block's end, `last` marks the final block, and `node` the final block of the last node of a layer.
-    // The hint keeps the loop over blocks in one piece (docs/SPEED.md).
+    // The two flags are the standard's own. The hint keeps the loop over blocks in one piece (docs/SPEED.md).
     #[inline(always)]
     pub fn compress(&mut self, m: &Words<W, 16>, t: u64, last: bool, node: bool)
         ensures { self.new ≡ compress W.Word.width self.old m.now t last node }

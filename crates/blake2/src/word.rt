@@ -49,7 +49,7 @@ pub trait Word: Copy + BitXor<Self, Output = Self> {
     fn high(t: u64) -> Self
         ensures { value result ≡ t / 2 ^ width.bits % 2 ^ width.bits };
 
-    // The word that the first bytes spell.
+    // The word that the first bytes spell. Eight bytes are enough for either word, so the function is total.
     fn load(bytes: [u8; 8]) -> Self
         ensures { value result ≡ le (take width.size bytes) };
 
@@ -57,7 +57,7 @@ pub trait Word: Copy + BitXor<Self, Output = Self> {
     fn bytes(self) -> [u8; 8]
         ensures { result ≡ pad 8 (le_bytes width.size (value self)) };
 
-    // The sum, modulo 2 ^ bits. It and the rotation have one body for both words: std has no trait for them, and that of `num_traits` gives integers, where the standard has natural numbers.
+    // The sum, modulo 2 ^ bits. It, the rotation and `mask` have one body for both words: std has no trait for them, that of `num_traits` gives integers, where the standard has natural numbers, and a constant for `mask` would take more lines.
     fn plus(self, other: Self) -> Self
         ensures { value result ≡ (value self + value other) % 2 ^ width.bits };
 

@@ -6,7 +6,7 @@ ghost use Rattle.byte_strings.specs.Strings.{append_answer, appended};
 use crate::{Bytes, TooLong};
 use itoa::Buffer;
 
-// The number that one to four digits write, with no leading zero except in 0 itself.
+// The number that one to four digits write, with no leading zero except in 0 itself. The library's `parse` takes leading zeros and a sign too.
 pub fn number(digits: &[u8]) -> Option<u16>
     ensures { result ≡ numbered digits.now }
 {

@@ -8,6 +8,7 @@ use std::fmt;
 #[derive(Clone, Copy, PartialEq, Eq, Debug)]
 pub struct TooLong;
 
+// Written out, since a derive states no text in its contract.
 impl fmt::Display for TooLong {
     ghost output = { λ _. Some (codes "more bytes than the byte string can hold") };
 

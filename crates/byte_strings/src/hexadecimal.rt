@@ -7,7 +7,7 @@ ghost use Rattle.byte_strings.specs.Strings.{append_answer, appended};
 use crate::{Bytes, TooLong};
 
 impl<const N: usize> Bytes<N> {
-    // The bytes that pairs of hexadecimal digits write, where N are enough.
+    // The bytes that pairs of hexadecimal digits write, where N are enough. The crate `hex` reads capitals too.
     pub fn from_hex(digits: &[u8]) -> Option<Bytes<N>>
         ensures { result ≡ hex_within N digits.now }
     {

@@ -6,7 +6,7 @@ use crate::{Module, Refusal};
 use std::error::Error;
 use std::fmt;
 
-// The place is a line of a text, a page of an image, or 0.
+// The place is a line of a text, a page of an image, or 0 where it is about neither: the printed fault has a number in any case, which an `Option` would have to be turned into again.
 #[derive(Clone, Copy, PartialEq, Eq, Debug)]
 pub struct Fault {
     pub number: Refusal,

@@ -34,6 +34,7 @@ impl PageState {
 #[derive(Clone, Copy, PartialEq, Eq, Debug)]
 pub struct StrangeState(pub u8);
 
+// Written out, since a derive states no text in its contract.
 impl fmt::Display for StrangeState {
     ghost output = { λ s. Some (codes "no page state is " ++ decimal s.0) };
 

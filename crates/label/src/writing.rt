@@ -1,4 +1,4 @@
-// Writing the text of a label. It is bytes in fixed memory, for a buffer of the caller's, and no `Display`: salt and layout are bytes, and a program in C reads it too.
+// Writing the text of a label. It is bytes in fixed memory, and no `Display`: salt and layout are bytes, which a formatter takes as text alone.
 ghost use Rattle.std.specs.Prelude.{◌≡◌, ◌+◌, ◌<◌, ◌≤◌, [], ◌++◌, length, decimal};
 ghost use Rattle.byte_strings.specs.Hexadecimal.{hex};
 ghost use Rattle.lines.specs.Lines.{line_then};

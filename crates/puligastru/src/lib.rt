@@ -38,6 +38,7 @@ pub extern "C" fn puligastru_digest(
     ensures status { result ≡ status_of (digest_answer (width_of (variant_of variant)) digest_bytes (length key.now) (length input.now) (length out.old)) }
     ensures out { out.new ≡ digest_out (width_of (variant_of variant)) digest_bytes key.now input.now out.old }
 {
+    // A call for each variant: words are a type, and C names one by a number.
     match variant_of(variant) {
         Variant::B => status_of(stream::digest::<u64>(digest_bytes, key, input, out)),
         Variant::S => status_of(stream::digest::<u32>(digest_bytes, key, input, out)),

@@ -1,6 +1,5 @@
 // The command label: what a label says, in plain words.
 use crate::failure::Failure;
-use blake2::Variant;
 use byte_strings::hex_string;
 use label::Label;
 use std::fs;
@@ -22,10 +21,7 @@ fn print(rt: &HostRuntime, label: &Label) -> Result<(), Failure> {
     let heap = rt.alloc();
     let layout = String::from_utf8_lossy(heap, label.layout.as_slice())?;
     let salt = hex_string(heap, label.salt.as_slice())?;
-    let hash = match label.variant {
-        Variant::B => "BLAKE2b",
-        Variant::S => "BLAKE2s",
-    };
+    let hash = label.variant;
     println!(rt; "layout    {layout}")?;
     println!(rt; "hash      {hash}, {} bytes", label.digest)?;
     match label.key {

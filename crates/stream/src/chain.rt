@@ -46,7 +46,7 @@ impl<W: Word> Chain<W> {
         }
     }
 
-    // A block goes in that has n bytes, and zeros after them.
+    // A block goes in that has n bytes, and zeros after them: the words are made from all of it, and the counter goes by n.
     #[inline(always)]
     pub(crate) fn compress(&mut self, block: &[u8], n: usize, last: bool, node: bool)
         requires { (block_size W.Word.width ≤ length block.now) × (self.old.t + n < 2 ^ 63) }

@@ -28,7 +28,7 @@ impl<W: Word> Stream<W> {
     ghost use Rattle.stream.specs.Views.{view_of};
 
     // Whether a stream can have this digest length and this key: 11 or 12 where it cannot.
-    // The two go from call to call as they came: a struct of them would be made for one call, and say no more than the names do.
+    // They are two parameters in all calls: C's interface and the command line have them apart, and would make a struct of them for each call.
     pub fn check(digest_len: usize, key: &[u8]) -> Result<(), Fault>
         ensures { result ≡ begin_answer W.Word.width digest_len (length key.now) }
     {

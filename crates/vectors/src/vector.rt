@@ -19,6 +19,7 @@ pub(crate) fn try_line(rt: &HostRuntime, line: &str) -> anyhow::Result<bool> {
         counting(heap, input.parse::<usize>()?)?
     };
     let mut digest = vec![in heap; 0u8; published.len() / 2]?;
+    // The variant that is read picks the type of words. Any other word counts as s.
     let answer = match Variant::try_from(variant.as_bytes()).unwrap_or(Variant::S) {
         Variant::B => stream::digest::<u64>(digest.len(), &key, &input, &mut digest),
         Variant::S => stream::digest::<u32>(digest.len(), &key, &input, &mut digest),
