@@ -1,14 +1,11 @@
 -- A write to one part is a write to the pair.
-use Rattle.std.proofs.Common.{◌≡◌, ℕ, ◌-◌, ◌<◌, ◌≤◌, Bool, true, false, cond, List, [], ◌∷◌, length, is_ok, Some, sym, refl, ap, ◌∙◌, ⊎_elim}
+use Rattle.std.proofs.Common.{◌≡◌, ℕ, ◌-◌, ◌<◌, ◌≤◌, Bool, true, false, cond, List, length, is_ok, Some, sym, refl, ap, ◌∙◌, ⊎_elim}
 use Rattle.std.proofs.lemmas.List.{length-set, get_or-set_same, get_or-set_other, set-append_left, set-append_right}
 use Rattle.std.proofs.lemmas.Bool.{cases_eq}
-use Rattle.fault.specs.Faults.{on, unless}
-use Rattle.fault.specs.declared.refusal.Refusal.TheVariants.{PairParts}
-use Rattle.image.specs.Answers.{Answer, write_answer, written}
+use Rattle.image.specs.Answers.{write_answer, written}
 use Rattle.image.specs.Pages.{Page, Pages, absent, count, page_at, length_at, with_page, extent_of}
-use Rattle.image.specs.declared.extent.Extent.{Extent}
 use Rattle.image.proofs.Outcomes.{write_tells}
-use Rattle.pair.specs.Pairs.{pair_answer, pair_made, part_at, parts_bad}
+use Rattle.pair.specs.Pairs.{pair_answer, pair_made, part_at}
 use Rattle.pair.specs.declared.pair.Part.TheVariants.{First, Second}
 use Rattle.pair.specs.Sound.{front_at, back_at}
 use Rattle.pair.proofs.Joins.{in_first, in_second, made_is, write_ok}
@@ -31,10 +28,6 @@ module _ (a : Pages) (k : ℕ) (bytes : List ℕ) (h : k < count a) (e : length 
       let c : count (with_page a k bytes) ≡ count a = length-set a.pages k changed in
       let last = length-after (count a - 1) in
       cc
-
--- whether two can be joined is read off their extents
-abbrev answer_by : Extent → Extent → Answer
-answer_by x y = unless (on (parts_bad x y) PairParts 0 ∷ []) tt
 
 module _ (a b : Pages) (ok : is_ok (pair_answer a b) ≡ true) (k : ℕ) (bytes : List ℕ) where
   with_front : k < count a → length bytes ≡ length_at a k → pair_made (with_page a k bytes) b ≡ with_page (pair_made a b) k bytes
