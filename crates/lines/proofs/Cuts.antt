@@ -1,13 +1,14 @@
 -- One line: where its name and its value end.
-use Rattle.std.proofs.Common.{◌≡◌, ℕ, zero, suc, ◌+◌, ◌<◌, Bool, true, false, cond, eqb, List, [], ◌∷◌, ◌++◌, length, get_or, take, drop, Some, None, Ok, Err, Option, Result, sym, refl, ap, ◌∙◌, ⊎_elim, arith, length-append}
+use Rattle.std.proofs.Common.{◌≡◌, ℕ, zero, suc, ◌+◌, ◌<◌, Bool, true, false, cond, eqb, List, [], ◌∷◌, ◌++◌, length, get_or, take, drop, Some, None, Ok, Err, Option, Result, option_map, sym, refl, ap, ◌∙◌, ⊎_elim, arith, length-append}
 use Rattle.std.proofs.lemmas.Bool.{eq-eqb, ne_eqb, eqb-true, eqb-false, cases_eq}
 use Rattle.std.proofs.lemmas.Iterator.Adapters.{position_from-zero}
 use Rattle.std.proofs.lemmas.List.Quantifiers.{position-Some}
 use Rattle.std.specs.Option.{ok_or}
 use Rattle.std.specs.List.{AllByRecursion as All, position, position_from}
 use Rattle.fault.specs.Faults.{fault}
+use Rattle.fault.specs.declared.fault.Fault.{Fault}
 use Rattle.fault.specs.declared.refusal.Refusal.TheVariants.{LineForm}
-use Rattle.lines.specs.Lines.{line_then, after, ahead, cut, cut_after, formed, valued, Line, then, read_line}
+use Rattle.lines.specs.Lines.{line_then, after, ahead, cut, cut_after, formed, valued, Line, then, read_line, Answers}
 
 -- the name, and the line feed
 
@@ -53,6 +54,11 @@ valued_some n name s e = ap (formed n) e
 pub valued_none : (n : ℕ) (name s : List ℕ) → cut_after (after name s) ≡ None → valued n name s ≡ Err (fault LineForm n)
 unfolding valued
 valued_none n name s e = ap (formed n) e
+
+-- what is made of the name, the value and the rest, where o has these
+pub valued_as : {X : Type 0} (o : Option X) (f : X → List ℕ × List ℕ) (n : ℕ) (name s : List ℕ) {r : Result X Fault} → option_map f o ≡ cut_after (after name s) → r ≡ ok_or o (fault LineForm n) → Answers r f (valued n name s)
+valued_as None f n name s e h = rw h (valued_none n name s (sym e))
+valued_as (Some x) f n name s e h = rw h (valued_some n name s (sym e))
 
 -- from an accepted answer back to what was read
 

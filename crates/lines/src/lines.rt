@@ -1,10 +1,10 @@
-// A reader that takes named lines off the front of a text, one after another.
-ghost use Rattle.std.specs.Prelude.{◌≡◌, ◌==◌, position, ◌+◌, ◌≤◌, length, IfOk, option_map};
+// A reader that takes named lines off the front of a text, one after another, and counts them from 1. `line` has the same for a line of any number.
+ghost use Rattle.std.specs.Prelude.{◌≡◌, ◌+◌, ◌≤◌, length, IfOk};
 ghost use Rattle.fault.specs.Faults.{fault};
-ghost use Rattle.lines.specs.Lines.{after, cut, cut_after, valued, fixed_line, number_line, bytes_line, read_line, Answers, end_answer};
+ghost use Rattle.lines.specs.Lines.{valued, fixed_line, number_line, bytes_line, read_line, Answers, end_answer};
 ghost use Rattle.lines.specs.Reader.{value_of, past};
 
-use crate::Range;
+use crate::{Range, line};
 use byte_strings::Bytes;
 use fault::{Fault, Refusal};
 use std::marker::Model;
@@ -56,8 +56,7 @@ impl<'a> Lines<'a> {
         ensures answer { Answers result (λ v. v.now) (value_of (valued (self.old.taken + 1) name.now self.old.left)) }
         ensures after { self.new ≡ past name.now self.old }
     {
-        let missing = Fault::new(Refusal::LineForm, self.taken + 1);
-        let (value, rest) = first_line(self.left, name).ok_or(missing)?;
+        let (value, rest) = line::value(self.left, self.taken + 1, name)?;
         self.left = rest;
         self.taken += 1;
         Ok(value)
@@ -81,11 +80,7 @@ impl<'a> Lines<'a> {
         ensures after { self.new ≡ past name.now self.old }
     {
         let value = self.value(name)?;
-        let n = byte_strings::number(value).ok_or(self.fault(Refusal::LineForm))?;
-        if !range.contains(n) {
-            return Err(self.fault(Refusal::NumberRange));
-        }
-        Ok(n)
+        line::number_in(value, self.taken, range)
     }
 
     // Takes a line with the hexadecimal digits of `size` bytes.
@@ -99,42 +94,13 @@ impl<'a> Lines<'a> {
         ensures after { self.new ≡ past name.now self.old }
     {
         let value = self.value(name)?;
-        let bytes = Bytes::from_hex(value).ok_or(self.fault(Refusal::LineForm))?;
-        if bytes.len() != size {
-            return Err(self.fault(Refusal::LineForm));
-        }
-        Ok(bytes)
+        line::hexadecimal(value, self.taken, size)
     }
 
     // Refuses bytes that are left, as the line that would begin with them.
     pub fn end(&self) -> Result<(), Fault>
         ensures { result ≡ end_answer (self.now.taken + 1) self.now.left }
     {
-        if !self.left.is_empty() {
-            return Err(Fault::new(Refusal::BytesLeft, self.taken + 1));
-        }
-        Ok(())
+        line::end(self.left, self.taken + 1)
     }
-}
-
-// What stands after the name on the first line of a text, and what follows that line.
-fn first_line<'a>(text: &'a [u8], name: &[u8]) -> Option<(&'a [u8], &'a [u8])>
-    ensures { option_map (λ p. (p.0.now, p.1.now)) result ≡ cut_after (after name.now text.now) }
-{
-    cut_line(text.strip_prefix(name)?)
-}
-
-// The bytes before the first line feed, and those after it.
-fn cut_line(text: &[u8]) -> Option<(&[u8], &[u8])>
-    ensures { option_map (λ p. (p.0.now, p.1.now)) result ≡ cut text.now }
-{
-    let at = line_feed(text)?;
-    Some((&text[..at], &text[at + 1..]))
-}
-
-// Where the first line feed is.
-fn line_feed(text: &[u8]) -> Option<usize>
-    ensures { result ≡ position (λ b. b == 10) text.now }
-{
-    text.iter().position(|b| *b == b'\n')
 }

@@ -3,7 +3,7 @@ use Rattle.std.proofs.lemmas.Slice.Eq.{strip_prefix_is}
 use Rattle.std.specs.Cmp.{unsigned_Decides}
 use Rattle.lines.specs.Lines.{cut_after}
 use Rattle.lines.proofs.Cuts.{after_some, after_none}
-use Rattle.lines.proofs.lines.first_line.Goals as goal
+use Rattle.lines.proofs.line.first_line.Goals as goal
 
 pub returns-in_err-strip_prefix : goal.returns-in_err-strip_prefix
 returns-in_err-strip_prefix c =
