@@ -15,15 +15,18 @@ module _ (name name' : ℕ) (extent extent' : Extent) (locked locked' : ℕ) (sa
   pub same_name : name ≡ name'
   same_name = cc
 
-  same_extent : extent ≡ extent'
+  pub same_extent : extent ≡ extent'
   same_extent =
       let e : record { size = extent.size; count = extent.count; last = extent.last } ≡ record { size = extent'.size; count = extent'.count; last = extent'.last } = cc in e
 
-  same_locked : locked ≡ locked'
+  pub same_size : extent.size ≡ extent'.size
+  same_size = cc
+
+  pub same_locked : locked ≡ locked'
   same_locked = cc
 
 -- another buffer of the same length is the same image, but for its bytes
-held_again : (ok : Bool) (size : ℕ) (state_at : ℕ → PageState) (before now : List ℕ) → length now ≡ length before
+pub held_again : (ok : Bool) (size : ℕ) (state_at : ℕ → PageState) (before now : List ℕ) → length now ≡ length before
     → cut_pages (extent_of (image_of ok size state_at before)).size (extent_of (image_of ok size state_at before)).count state_at now ≡ image_of ok size state_at now
 held_again true size state_at before now e =
     ap (λ n. cut_pages size n state_at now) (cut-count size (pages_of size (length before)) state_at before ∙ ap (pages_of size) (sym e))
@@ -36,6 +39,18 @@ bytes_there true size state_at buffer k h =
     let n = pages_of size (length buffer) in ap (λ (p : Page). p.bytes) (cut_at size n state_at buffer k (omega (arith, cut-count size n state_at buffer)))
 bytes_there false size state_at buffer k h = absurd (omega arith)
 
+-- an image was made of `before`, was used through its interface in any way, so that its frame is as it was, and the buffer is back as `now`
+module _ (size q : ℕ) (before now : List ℕ) (name name' : ℕ) (extent extent' : Extent) (locked locked' : ℕ)
+    (large : extent ≡ extent_of (bench_made size q before)) (locks : locked ≡ q)
+    (frame : name' ∷ extent'.size ∷ extent'.count ∷ extent'.last ∷ locked' ∷ [] ≡ name ∷ extent.size ∷ extent.count ∷ extent.last ∷ locked ∷ [])
+    (long : length now ≡ length before) where
+  pub made_again : bench_held extent' locked' now ≡ bench_made size q now
+  made_again =
+      let again = held_again (is_ok (bench_answer size q (length before))) size (bench_state q) before now long in
+      let e = same_extent name' name extent' extent locked' locked frame in
+      let l = same_locked name' name extent' extent locked' locked frame in
+      cc
+
 -- a page is put into an image that was made of `before` and held `inside`; its frame is as it was, and the buffer is back as `now`
 module _ (size q : ℕ) (before inside now : List ℕ) (name name' : ℕ) (extent extent' : Extent) (locked locked' page : ℕ) (bytes : List ℕ) (r : Answer)
     (made : bench_held extent locked inside ≡ bench_made size q before) (large : extent ≡ extent_of (bench_made size q before)) (locks : locked ≡ q)
@@ -43,11 +58,7 @@ module _ (size q : ℕ) (before inside now : List ℕ) (name name' : ℕ) (exten
     (answer : r ≡ write_answer (bench_held extent locked inside) page (length bytes)) (after : bench_held extent' locked' now ≡ written (bench_held extent locked inside) page bytes)
     (long : length now ≡ length before) where
   pub put_after : bench_made size q now ≡ written (bench_made size q before) page bytes
-  put_after =
-      let again = held_again (is_ok (bench_answer size q (length before))) size (bench_state q) before now long in
-      let e = same_extent name' name extent' extent locked' locked frame in
-      let l = same_locked name' name extent' extent locked' locked frame in
-      cc
+  put_after = let again = made_again size q before now name name' extent extent' locked locked' large locks frame long in cc
 
   pub put_page : is_ok r ≡ true → cut size now page ≡ bytes
   put_page done =

@@ -1,13 +1,14 @@
 -- A pair is well-formed where its parts are. The code cites the proof in `ghost sound`, so it stands with the definitions.
-use Rattle.std.specs.Prelude.{◌≡◌, ℕ, ◌+◌, ◌-◌, ◌<◌, ◌≤◌, true, length, is_ok, refl}
+use Rattle.std.specs.Prelude.{◌≡◌, ℕ, ◌+◌, ◌-◌, ◌<◌, ◌≤◌, true, false, [], length, is_ok, refl}
 use Rattle.std.proofs.Common.{sym, ap, ◌∙◌, ⊎_elim, arith}
 use Rattle.std.proofs.lemmas.List.{length-append, get_or_append_left, get_or-append_right}
 use Rattle.std.proofs.lemmas.Bool.{cases_lt}
 use Rattle.std.proofs.lemmas.Bool.Decides.{nat_tests}
+use Rattle.fault.specs.declared.refusal.Refusal.TheVariants.{PairParts}
 use Rattle.image.specs.Pages.{Page, Pages, WellFormed, absent, count, page_at, length_at, extent_of}
-use Rattle.image.proofs.Sound.{made_sound}
+use Rattle.image.proofs.Sound.{made_sound, row_passed}
 use Rattle.image.specs.declared.extent.Extent.{Extent}
-use Rattle.pair.specs.Pairs.{joined, pair_answer, pair_made}
+use Rattle.pair.specs.Pairs.{joined, parts_bad, pair_answer, pair_made}
 
 -- what an accepted check says
 pub record Fit (a b : Extent) : Type 0 where
@@ -17,14 +18,17 @@ pub record Fit (a b : Extent) : Type 0 where
   pub full : a.last ≡ a.size
   pub few : a.count + b.count ≤ 4096
 
-pub accepted : (a b : Pages) → is_ok (pair_answer a b) ≡ true → Fit (extent_of a) (extent_of b)
-accepted a b h = record {
+pub parts_fit : (a b : Extent) → parts_bad a b ≡ false → Fit a b
+parts_fit a b h = record {
   some = grind (arith, nat_tests);
   more = grind (arith, nat_tests);
   same = grind (arith, nat_tests);
   full = grind (arith, nat_tests);
   few = grind (arith, nat_tests);
 }
+
+pub accepted : (a b : Pages) → is_ok (pair_answer a b) ≡ true → Fit (extent_of a) (extent_of b)
+accepted a b h = parts_fit (extent_of a) (extent_of b) (row_passed (parts_bad (extent_of a) (extent_of b)) PairParts 0 [] h)
 
 module _ (a b : Pages) where
   pub joined-count : count (joined a b) ≡ count a + count b
