@@ -1,4 +1,3 @@
 pub mod Decimal
 pub mod Hexadecimal
-pub mod Padding
 pub mod Strings

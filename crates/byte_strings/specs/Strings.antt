@@ -1,10 +1,25 @@
--- Byte strings of at most n bytes.
-use Rattle.std.specs.Prelude.{ℕ, ◌-◌, ◌<◌, cond, List, ◌++◌, length, replicate, Some, None, Ok, Err, Option, Result, nat_le, slice_index}
+-- Byte strings: the bytes that one holds, and the limit of n bytes.
+use Rattle.std.specs.Prelude.{ℕ, ◌-◌, ◌<◌, cond, List, ◌++◌, length, take, replicate, Some, None, Ok, Err, Option, Result, nat_le, slice_index}
+use Rattle.byte_strings.specs.declared.bytes.Bytes.{Bytes}
 use Rattle.byte_strings.specs.declared.error.TooLong.{TooLong}
 
 -- each element is a byte
 abbrev pub AreBytes : List ℕ → Type 0
 AreBytes bs = (k : ℕ) → slice_index bs k < 256
+
+-- the bytes of a string
+abbrev pub listed : {N : ℕ} → Bytes N → List ℕ
+listed b = take b.len b.all
+
+-- those of a string, if there is one
+abbrev pub listing : {N : ℕ} → Option (Bytes N) → Option (List ℕ)
+listing None = None
+listing (Some b) = Some (listed b)
+
+-- those of a string, or why there is none
+abbrev pub outcome : {N : ℕ} {E : Type 0} → Result (Bytes N) E → Result (List ℕ) E
+outcome (Ok b) = Ok (listed b)
+outcome (Err e) = Err e
 
 abbrev pub too_long : TooLong
 too_long = record {}

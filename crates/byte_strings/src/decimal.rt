@@ -1,7 +1,7 @@
 // Numbers as decimal text.
 ghost use Rattle.std.specs.Prelude.{◌≡◌, decimal};
 ghost use Rattle.byte_strings.specs.Decimal.{leading_zero, numbered};
-ghost use Rattle.byte_strings.specs.Strings.{append_answer, appended};
+ghost use Rattle.byte_strings.specs.Strings.{listed, append_answer, appended};
 
 use crate::{Bytes, TooLong};
 use itoa::Buffer;
@@ -33,8 +33,8 @@ fn has_leading_zero(digits: &[u8]) -> bool
 impl<const N: usize> Bytes<N> {
     // Adds the digits of n, all or none, as `append` does.
     pub fn append_decimal(&mut self, n: u16) -> Result<(), TooLong>
-        ensures answer { result ≡ append_answer N self.old (decimal n) }
-        ensures after { self.new ≡ appended N self.old (decimal n) }
+        ensures answer { result ≡ append_answer N (listed self.old) (decimal n) }
+        ensures after { listed self.new ≡ appended N (listed self.old) (decimal n) }
     {
         self.append(Buffer::new().format(n).as_bytes())
     }

@@ -2,14 +2,14 @@
 ghost use Rattle.std.specs.Prelude.{◌≡◌, ◌<◌, IfSome};
 ghost use Rattle.std.specs.Char.{digit_char};
 ghost use Rattle.byte_strings.specs.Hexadecimal.{hex, nibble, hex_within};
-ghost use Rattle.byte_strings.specs.Strings.{append_answer, appended};
+ghost use Rattle.byte_strings.specs.Strings.{listed, listing, append_answer, appended};
 
 use crate::{Bytes, TooLong};
 
 impl<const N: usize> Bytes<N> {
     // The bytes that pairs of hexadecimal digits write, where N are enough. The crate `hex` reads capitals too.
     pub fn from_hex(digits: &[u8]) -> Option<Bytes<N>>
-        ensures { result ≡ hex_within N digits.now }
+        ensures { listing result ≡ hex_within N digits.now }
     {
         if digits.len() % 2 != 0 || digits.len() / 2 > N {
             return None;
@@ -25,8 +25,8 @@ impl<const N: usize> Bytes<N> {
 
     // Adds the hexadecimal digits of the bytes, all or none, as `append` does.
     pub fn append_hex(&mut self, bytes: &[u8]) -> Result<(), TooLong>
-        ensures answer { result ≡ append_answer N self.old (hex bytes.now) }
-        ensures after { self.new ≡ appended N self.old (hex bytes.now) }
+        ensures answer { result ≡ append_answer N (listed self.old) (hex bytes.now) }
+        ensures after { listed self.new ≡ appended N (listed self.old) (hex bytes.now) }
     {
         if bytes.len() > (N - self.len()) / 2 {
             return Err(TooLong);
