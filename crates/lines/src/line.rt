@@ -1,5 +1,6 @@
 // One line at the front of a text, whatever its number is: a refusal names it, and nothing else goes by it.
 ghost use Rattle.std.specs.Prelude.{◌≡◌, ◌==◌, position, ◌≤◌, [], length, IfOk, option_map};
+ghost use Rattle.byte_strings.specs.Strings.{listed};
 ghost use Rattle.lines.specs.Lines.{after, cut, cut_after, valued, fixed_line, number_line, read_bytes, read_line, Answers, end_answer};
 
 use crate::Range;
@@ -57,8 +58,8 @@ pub fn hexadecimal<const N: usize>(
     line: usize,
     size: usize,
 ) -> Result<Bytes<N>, Fault>
-    ensures answer { result ≡ read_bytes line N size value.now }
-    ensures size { IfOk result (λ b. length b ≡ size) }
+    ensures answer { Answers result listed (read_bytes line N size value.now) }
+    ensures size { IfOk result (λ b. length (listed b) ≡ size) }
 {
     let bytes = Bytes::from_hex(value).ok_or(Fault::new(Refusal::LineForm, line))?;
     if bytes.len() != size {

@@ -1,5 +1,6 @@
 // A reader that takes named lines off the front of a text, one after another, and counts them from 1. `line` has the same for a line of any number.
 ghost use Rattle.std.specs.Prelude.{◌≡◌, ◌+◌, ◌≤◌, length, IfOk};
+ghost use Rattle.byte_strings.specs.Strings.{listed};
 ghost use Rattle.fault.specs.Faults.{fault};
 ghost use Rattle.lines.specs.Lines.{valued, fixed_line, number_line, bytes_line, read_line, Answers, end_answer};
 ghost use Rattle.lines.specs.Reader.{value_of, past};
@@ -89,8 +90,8 @@ impl<'a> Lines<'a> {
         name: &[u8],
         size: usize,
     ) -> Result<Bytes<N>, Fault>
-        ensures answer { result ≡ value_of (read_line (bytes_line (self.old.taken + 1) name.now N size) self.old.left) }
-        ensures size { IfOk result (λ b. length b ≡ size) }
+        ensures answer { Answers result listed (value_of (read_line (bytes_line (self.old.taken + 1) name.now N size) self.old.left)) }
+        ensures size { IfOk result (λ b. length (listed b) ≡ size) }
         ensures after { self.new ≡ past name.now self.old }
     {
         let value = self.value(name)?;
