@@ -1,9 +1,12 @@
 -- Reading is the inverse of writing.
 use Rattle.std.proofs.Common.{◌≡◌, ℕ, ◌+◌, ◌-◌, not, List, [], ◌∷◌, ◌++◌, length, Ok, Err, Result, sym, ap, ◌∙◌, append-nil, arith, length-append}
+use denote.Param.{number}
 use denote.Struct.Record.{values_one}
 use Rattle.std.proofs.lemmas.Bool.{ne_eqb}
-use Rattle.std.specs.Coded.{coded_list, coded_ℕ}
 use Rattle.blake2.specs.contracts.variant.Variant as variant
+use Rattle.byte_strings.proofs.Strings.{one_string}
+use Rattle.byte_strings.specs.contracts.bytes.Bytes as bytes
+use Rattle.byte_strings.specs.Strings.{listed}
 use Rattle.fault.specs.Faults.{on, unless}
 use Rattle.fault.specs.declared.fault.Fault.{Fault}
 use Rattle.fault.specs.declared.refusal.Refusal.TheVariants.{BytesLeft}
@@ -18,8 +21,12 @@ use Rattle.label.proofs.Fronts.{front_reads, lines_are_text, text_is_lines}
 -- two labels that say the same are one value
 pub one_label : (l m : Label) → parts l ≡ parts m → l ≡ m
 one_label l m e =
-    values_one label.struct (label.the_propositions (variant.the_row).coded (coded_list coded_ℕ)) l m
-    (λ i. ((e i).variant, ((e i).digest, ((e i).key, ((e i).fanout, ((e i).depth, ((e i).page, ((e i).salt, ((e i).layout, tt)))))))))
+    values_one label.struct (label.the_propositions (variant.the_row).coded (bytes.the_row (number 16)).coded) l m
+    (λ i. ((e i).variant, ((e i).digest, ((e i).key, ((e i).fanout, ((e i).depth, ((e i).page, (one_string l.salt m.salt (ap (λ p. p.salt) e) i, (one_string l.layout m.layout (ap (λ p. p.layout) e) i, tt)))))))))
+
+pub one_from_fields : (l m : Label) → l.variant ≡ m.variant → l.digest ≡ m.digest → l.key ≡ m.key → l.fanout ≡ m.fanout → l.depth ≡ m.depth → l.page ≡ m.page → l.salt ≡ m.salt → l.layout ≡ m.layout → l ≡ m
+one_from_fields l m a b c d e f g h =
+    one_label l m (λ i. record { variant = a i; digest = b i; key = c i; fanout = d i; depth = e i; page = f i; salt = listed (g i); layout = listed (h i) })
 
 -- the whole text, from the front of it
 

@@ -3,6 +3,8 @@ use Rattle.std.proofs.Common.{◌≡◌, ℕ, ◌<◌, ◌≤◌, Bool, true, fa
 use Rattle.std.proofs.lemmas.Bool.{eqb-true, le-leb, and_parts, and_from, cond-true, false≢true}
 use Rattle.blake2.specs.declared.variant.Variant.{Variant}
 use Rattle.blake2.specs.declared.variant.Variant.TheVariants.{B, S}
+use Rattle.byte_strings.proofs.Strings.{listed_bytes}
+use Rattle.byte_strings.specs.Strings.{listed}
 use Rattle.lines.proofs.Codecs.{Faithful, Has, fixed_faithful, fixed_has, number_faithful, number_has, bytes_faithful, bytes_has}
 use Rattle.lines.proofs.Cuts.{Clean, never_some, formed_back}
 use Rattle.lines.proofs.Formats.{AllFaithful, AllHave}
@@ -104,8 +106,8 @@ label_has l = (
             (
               in_range _ page_range l.page l.page_low l.page_high (omega arith),
               (
-                bytes_has _ 16 (salt_length_of l.variant) l.salt (salt_fits l.variant) l.salt_length l.salt_bytes,
-                (layout_has _ l.variant l.layout l.layout_low l.layout_high l.layout_bytes, tt),
+                bytes_has _ 16 (salt_length_of l.variant) (listed l.salt) (salt_fits l.variant) l.salt_length (listed_bytes l.salt),
+                (layout_has _ l.variant (listed l.layout) l.layout_low l.layout_high l.layout_bytes, tt),
               ),
             ),
           ),

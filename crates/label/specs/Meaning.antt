@@ -1,12 +1,13 @@
 -- What a label, as a value of the program, says.
 use Rattle.std.specs.Prelude.{◌≡◌, ℕ, List, ◌++◌, Ok, Err, Result}
+use Rattle.byte_strings.specs.Strings.{listed}
 use Rattle.fault.specs.declared.fault.Fault.{Fault}
 use Rattle.label.specs.declared.label.Label.{Label}
 use Rattle.label.specs.Labels.{Parts, text}
 
 abbrev pub parts : Label → Parts
 parts l =
-    record { variant = l.variant; digest = l.digest; key = l.key; fanout = l.fanout; depth = l.depth; page = l.page; salt = l.salt; layout = l.layout }
+    record { variant = l.variant; digest = l.digest; key = l.key; fanout = l.fanout; depth = l.depth; page = l.page; salt = listed l.salt; layout = listed l.layout }
 
 -- what an answer says
 abbrev pub meant : Result Label Fault → Result Parts Fault

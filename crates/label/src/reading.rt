@@ -1,5 +1,6 @@
 // Reading a label from its text.
 ghost use Rattle.std.specs.Prelude.{◌≡◌, ℕ, ◌+◌, true, length, IfOk, Ok};
+ghost use Rattle.byte_strings.specs.Strings.{listed};
 ghost use Rattle.lines.specs.Lines.{read_line, then, Answers};
 ghost use Rattle.lines.specs.Reader.{value_of, past};
 ghost use Rattle.label.specs.Labels.{variant_line, layout_line, label_lines, front_answer, read_answer};
@@ -25,8 +26,8 @@ fn variant(lines: &mut Lines<'_>, name: &[u8]) -> Result<Variant, Fault>
 
 // Takes the line with a layout name.
 fn layout(lines: &mut Lines<'_>, name: &[u8], variant: Variant) -> Result<Bytes<16>, Fault>
-    ensures answer { result ≡ value_of (read_line (layout_line (lines.old.taken + 1) name.now variant) lines.old.left) }
-    ensures rules { IfOk result (λ b. layout_name variant b ≡ true) }
+    ensures answer { Answers result listed (value_of (read_line (layout_line (lines.old.taken + 1) name.now variant) lines.old.left)) }
+    ensures rules { IfOk result (λ b. layout_name variant (listed b) ≡ true) }
     ensures after { lines.new ≡ past name.now lines.old }
 {
     let value = lines.value(name)?;

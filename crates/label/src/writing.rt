@@ -1,6 +1,7 @@
 // Writing the text of a label. It is bytes in fixed memory, and no `Display`: salt and layout are bytes, which a formatter takes as text alone.
 ghost use Rattle.std.specs.Prelude.{◌≡◌, ◌+◌, ◌<◌, ◌≤◌, [], ◌++◌, length, decimal};
 ghost use Rattle.byte_strings.specs.Hexadecimal.{hex};
+ghost use Rattle.byte_strings.specs.Strings.{listed};
 ghost use Rattle.lines.specs.Lines.{line_then};
 ghost use Rattle.label.specs.Labels.{write_answer, written};
 ghost use Rattle.label.specs.Meaning.{parts, label_text};
@@ -14,9 +15,9 @@ const ROOM: usize = 146;
 
 // Adds a line.
 fn put(out: &mut Bytes<ROOM>, name: &[u8], value: &[u8])
-    requires { length out.old + length name.now + length value.now < 146 }
-    ensures length { length out.new ≤ length out.old + length name.now + length value.now + 1 }
-    ensures bytes { out.new ≡ out.old ++ line_then name.now value.now [] }
+    requires { length (listed out.old) + length name.now + length value.now < 146 }
+    ensures length { length (listed out.new) ≤ length (listed out.old) + length name.now + length value.now + 1 }
+    ensures bytes { listed out.new ≡ listed out.old ++ line_then name.now value.now [] }
 {
     out.append(name).unwrap();
     out.append(value).unwrap();
@@ -25,8 +26,8 @@ fn put(out: &mut Bytes<ROOM>, name: &[u8], value: &[u8])
 
 // A number in decimal digits.
 fn decimal(n: u16) -> Bytes<5>
-    ensures digits { result ≡ decimal n }
-    ensures length { length result ≤ 5 }
+    ensures digits { listed result ≡ decimal n }
+    ensures length { length (listed result) ≤ 5 }
 {
     let mut digits = Bytes::new();
     digits.append_decimal(n).unwrap();
@@ -36,8 +37,8 @@ fn decimal(n: u16) -> Bytes<5>
 // Up to 16 bytes in hexadecimal digits.
 fn hexadecimal(bytes: &[u8]) -> Bytes<32>
     requires { length bytes.now ≤ 16 }
-    ensures digits { result ≡ hex bytes.now }
-    ensures length { length result ≤ 32 }
+    ensures digits { listed result ≡ hex bytes.now }
+    ensures length { length (listed result) ≤ 32 }
 {
     let mut digits = Bytes::new();
     digits.append_hex(bytes).unwrap();
@@ -47,7 +48,7 @@ fn hexadecimal(bytes: &[u8]) -> Bytes<32>
 impl Label {
     // The nine lines.
     pub fn text(&self) -> Bytes<ROOM>
-        ensures { result ≡ label_text self.now }
+        ensures { listed result ≡ label_text self.now }
     {
         let mut out = Bytes::new();
         put(&mut out, b"kind=seal", b"");
@@ -73,11 +74,8 @@ impl Label {
             decimal(u16::from(self.depth)).as_slice(),
         );
         put(&mut out, b"page=", decimal(self.page).as_slice());
-        put(
-            &mut out,
-            b"salt=",
-            hexadecimal(self.salt.as_slice()).as_slice(),
-        );
+        let salt = hexadecimal(self.salt.as_slice());
+        put(&mut out, b"salt=", salt.as_slice());
         put(&mut out, b"layout=", self.layout.as_slice());
         out
     }

@@ -2,7 +2,7 @@ use Rattle.std.proofs.Common.{ap, rules}
 use denote.Enum.Bare.{Bare, same_true, true_same}
 use Rattle.std.proofs.lemmas.Bool.{eq-eqb, eqb-true, and_parts, and_from}
 use Rattle.blake2.specs.contracts.variant.Variant as variant
-use Rattle.label.proofs.Inverse.{one_label}
+use Rattle.label.proofs.Inverse.{one_from_fields}
 use Rattle.label.proofs.equality.equality_is_identity.Goals as goal
 
 pub returns : goal.returns
@@ -19,16 +19,9 @@ returns c a b =
           let v = and_parts _ _ u.1 in
           let w = and_parts _ _ v.1 in
           let e = same_true variant.the_type bare a.variant b.variant p.0 in
-          one_label a b (λ i. record {
-            variant = e i;
-            digest = eqb-true a.digest b.digest q.0 i;
-            key = eqb-true a.key b.key r.0 i;
-            fanout = eqb-true a.fanout b.fanout s.0 i;
-            depth = eqb-true a.depth b.depth u.0 i;
-            page = eqb-true a.page b.page v.0 i;
-            salt = salt.0 w.0 i;
-            layout = layout.0 w.1 i;
-          }),
+          one_from_fields a b e
+          (eqb-true a.digest b.digest q.0) (eqb-true a.key b.key r.0) (eqb-true a.fanout b.fanout s.0) (eqb-true a.depth b.depth u.0) (eqb-true a.page b.page v.0)
+          (salt.0 w.0) (layout.0 w.1),
       λ e.
           and_from _ _ (true_same variant.the_type a.variant b.variant (ap (λ l. l.variant) e))
           (and_from _ _ (eq-eqb a.digest b.digest (ap (λ l. l.digest) e))

@@ -1,7 +1,8 @@
-use Rattle.std.proofs.Common.{ℕ, List, codes, refl, ◌∙◌}
+use Rattle.std.proofs.Common.{ℕ, List, codes, sym, refl, ◌∙◌}
 use Rattle.std.proofs.lemmas.Result.{err_from_is_err_and}
 use Rattle.blake2.specs.declared.variant.Variant.{Variant}
-use Rattle.lines.proofs.Readers.{accepted_line, refused_line, bytes_read}
+use Rattle.byte_strings.specs.Strings.{listed}
+use Rattle.lines.proofs.Readers.{accepted_line, refused_line}
 use Rattle.lines.specs.Lines.{Line, fixed_line, number_line, bytes_line}
 use Rattle.label.specs.Labels.{variant_line, layout_line}
 use Rattle.label.specs.Rules.{digest_range, key_range, fanout_range, depth_range, page_range, salt_length_of}
@@ -114,7 +115,7 @@ pub returns-in_err-salt-clause-answer : goal.returns-in_err-salt-clause-answer
 returns-in_err-salt-clause-answer c =
     let p = err_from_is_err_and c.from_residual-in_err-salt.result c.from_residual-in_err-salt.ensures.1 in
     rw (p.1, p.2)
-    (refused_line (salt c.in_ok-variant.variant) _ 7 _ refl (rw c.salt_length.ensures.0 at c.in_err-salt.ensures.answer)
+    (refused_line (salt c.in_ok-variant.variant) _ 7 _ refl (sym (rw c.salt_length.ensures.0 at c.in_err-salt.ensures.answer))
     (accepted_line page _ 6 _ refl c.in_ok-page.ensures.answer c.in_ok-page.ensures.after
     (accepted_line depth _ 5 _ refl c.in_ok-depth.ensures.answer c.in_ok-depth.ensures.after
     (accepted_line fanout _ 4 _ refl c.in_ok-fanout.ensures.answer c.in_ok-fanout.ensures.after
@@ -128,8 +129,8 @@ pub returns-in_err-layout-clause-answer : goal.returns-in_err-layout-clause-answ
 returns-in_err-layout-clause-answer c =
     let p = err_from_is_err_and c.from_residual-in_err-layout.result c.from_residual-in_err-layout.ensures.1 in
     rw (p.1, p.2)
-    (refused_line (layout c.in_ok-variant.variant) _ 8 _ refl c.in_err-layout.ensures.answer
-    (accepted_line (salt c.in_ok-variant.variant) _ 7 _ refl (rw c.salt_length.ensures.0 at c.in_ok-salt.ensures.answer) c.in_ok-salt.ensures.after
+    (refused_line (layout c.in_ok-variant.variant) _ 8 _ refl (sym c.in_err-layout.ensures.answer)
+    (accepted_line (salt c.in_ok-variant.variant) _ 7 _ refl (sym (rw c.salt_length.ensures.0 at c.in_ok-salt.ensures.answer)) c.in_ok-salt.ensures.after
     (accepted_line page _ 6 _ refl c.in_ok-page.ensures.answer c.in_ok-page.ensures.after
     (accepted_line depth _ 5 _ refl c.in_ok-depth.ensures.answer c.in_ok-depth.ensures.after
     (accepted_line fanout _ 4 _ refl c.in_ok-fanout.ensures.answer c.in_ok-fanout.ensures.after
@@ -142,8 +143,8 @@ returns-in_err-layout-clause-answer c =
 -- all nine
 pub returns : goal.returns
 returns c =
-    let nine = accepted_line (layout c.in_ok-variant.variant) _ 8 _ refl c.in_ok-layout.ensures.answer c.in_ok-layout.ensures.after
-    (accepted_line (salt c.in_ok-variant.variant) _ 7 _ refl (rw c.salt_length.ensures.0 at c.in_ok-salt.ensures.answer) c.in_ok-salt.ensures.after
+    let nine = accepted_line (layout c.in_ok-variant.variant) _ 8 _ refl (sym c.in_ok-layout.ensures.answer) c.in_ok-layout.ensures.after
+    (accepted_line (salt c.in_ok-variant.variant) _ 7 _ refl (sym (rw c.salt_length.ensures.0 at c.in_ok-salt.ensures.answer)) c.in_ok-salt.ensures.after
     (accepted_line page _ 6 _ refl c.in_ok-page.ensures.answer c.in_ok-page.ensures.after
     (accepted_line depth _ 5 _ refl c.in_ok-depth.ensures.answer c.in_ok-depth.ensures.after
     (accepted_line fanout _ 4 _ refl c.in_ok-fanout.ensures.answer c.in_ok-fanout.ensures.after
@@ -158,7 +159,7 @@ pub invariant_of-result : goal.invariant_of-result
 invariant_of-result c =
     let digest = rw c.digest_range.ensures at c.in_ok-digest.ensures.range in
     let key = rw c.key_range.ensures at c.in_ok-key.ensures.range in
-    let name = name_rules c.in_ok-variant.variant c.in_ok-layout.layout c.in_ok-layout.ensures.rules in
+    let name = name_rules c.in_ok-variant.variant (listed c.in_ok-layout.layout) c.in_ok-layout.ensures.rules in
     record {
       digest_low = digest.0;
       digest_high = digest.1;
@@ -170,7 +171,6 @@ invariant_of-result c =
       page_low = c.in_ok-page.ensures.range.0;
       page_high = c.in_ok-page.ensures.range.1;
       salt_length = c.in_ok-salt.ensures.size ∙ c.salt_length.ensures.0;
-      salt_bytes = bytes_read _ _ _ _ _ c.in_ok-salt.ensures.answer;
       layout_low = name.0;
       layout_high = name.1;
       layout_bytes = name.2;
