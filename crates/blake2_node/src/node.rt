@@ -1,6 +1,6 @@
 // A node hash by BLAKE2: a label and a key, and the digests of nodes under them.
 ghost use Rattle.std.specs.Prelude.{◌≡◌};
-ghost use Rattle.byte_strings.specs.Strings.{within};
+ghost use Rattle.byte_strings.specs.Strings.{listing, within};
 ghost use Rattle.blake2_node.specs.Meaning.{hashing};
 ghost use Rattle.blake2_node.specs.Nodes.{key_at, key_bytes};
 
@@ -30,7 +30,7 @@ pub type Blake2sNode = Blake2Node<u32>;
 impl<W: Word> Blake2Node<W> {
     // The node hash with this label and this key. Where the label is of the other variant, or the key has not the length that it says, it is unfit: its digests are zeros, and take no blocks.
     pub fn new(label: Label, key: &[u8]) -> Blake2Node<W>
-        ensures { hashing W.Word.width result.label result.key ≡ hashing W.Word.width label (within 64 key.now) }
+        ensures { hashing W.Word.width result.label (listing result.key) ≡ hashing W.Word.width label (within 64 key.now) }
     {
         Blake2Node {
             label,
@@ -41,7 +41,7 @@ impl<W: Word> Blake2Node<W> {
 
     // The key that goes before the input of a node of this depth.
     fn key_at(&self, depth: u8) -> &[u8]
-        ensures { result.now ≡ key_at (key_bytes self.now.key) depth }
+        ensures { result.now ≡ key_at (key_bytes (listing self.now.key)) depth }
     {
         match &self.key {
             Some(key) if depth == 0 => key.as_slice(),
@@ -51,7 +51,7 @@ impl<W: Word> Blake2Node<W> {
 }
 
 impl<W: Word> NodeHash for Blake2Node<W> {
-    ghost meaning = { λ s. hashing W.Word.width s.label s.key };
+    ghost meaning = { λ s. hashing W.Word.width s.label (listing s.key) };
 
     fn label(&self) -> Label {
         self.label

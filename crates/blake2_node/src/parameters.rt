@@ -1,6 +1,7 @@
 // The parameter block of a node.
 ghost use Rattle.std.specs.Prelude.{◌≡◌, ◌+◌, ◌≤◌, List, [], ◌++◌, length};
 ghost use Rattle.blake2.specs.Bytes.{pad};
+ghost use Rattle.byte_strings.specs.Strings.{listed};
 ghost use Rattle.label.specs.Meaning.{parts};
 ghost use Rattle.blake2_node.specs.Parameters.{offset_length, zeros_length, parameter_block};
 
@@ -22,8 +23,8 @@ fn lengths(variant: Variant) -> (usize, usize)
 
 // Puts a field behind those that are there.
 fn put(block: &mut Bytes<64>, field: &[u8])
-    requires { length block.old + length field.now ≤ 64 }
-    ensures { block.new ≡ block.old ++ field.now }
+    requires { length (listed block.old) + length field.now ≤ 64 }
+    ensures { listed block.new ≡ listed block.old ++ field.now }
 {
     block.append(field).unwrap();
 }

@@ -1,4 +1,5 @@
 use Rattle.std.proofs.Common.{◌≡◌, ◌≤◌, length, ◌∙◌, arith}
+use Rattle.byte_strings.specs.Strings.{listing}
 use Rattle.blake2_node.proofs.Answers.{answered, written}
 use Rattle.blake2_node.proofs.node.Blake2NodeNodeHash.hash.Goals as goal
 
@@ -6,7 +7,7 @@ pub returns : goal.returns
 returns g c =
     let w = g.W.Word.width in
     let l = c.args.self.now.label in
-    let key = c.args.self.now.key in
+    let key = listing c.args.self.now.key in
     let short : length c.args.input.now ≤ 4096 = omega arith in
     let long : length c.args.out.now ≡ l.digest = omega (arith, c.if-out-from.false, c.from.ensures) in
     record {
