@@ -3,6 +3,7 @@ ghost use Rattle.std.specs.Prelude.{◌≡◌, ℕ, ◌-◌, ◌<◌, ◌≤◌,
 
 // The library allocates nothing, so the bytes lie in place; the toolchain's `ArrayVec` is not `Copy`, which a label is.
 // The first `len` bytes of `all` are the string. The unused bytes are zero, so that equal strings are equal values.
+// The facts are fields and no model: a view as a list would say of a string in hand neither that it has at most N bytes nor that each is below 256.
 #[derive(Clone, Copy, Debug)]
 pub struct Bytes<const N: usize> {
     pub(crate) all: [u8; N],

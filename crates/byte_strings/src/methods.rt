@@ -81,6 +81,7 @@ impl<const N: usize> TryFrom<&[u8]> for Bytes<N> {
     }
 }
 
+// Written out: a derived `==` would go over the unused bytes too, and its contract would not say `same`.
 impl<const N: usize> PartialEq for Bytes<N> {
     ghost eq = { on listed (pointwise nat_eq) };
 

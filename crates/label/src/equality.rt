@@ -20,6 +20,7 @@ fn same_numbers(a: &Label, b: &Label) -> bool
         && a.page == b.page
 }
 
+// Written out, since a derived `==` would not say `same` in its contract.
 impl PartialEq for Label {
     ghost eq = { eq_of_both (on (λ l. l.variant) ⟦<Variant as PartialEq>⟧.eq)
         (eq_of_both (on (λ l. l.digest) nat_eq)
