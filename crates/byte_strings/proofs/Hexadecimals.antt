@@ -1,5 +1,5 @@
 -- Hexadecimal text: what its reader and its writer do at each byte, and that they are inverse to each other.
-use Rattle.std.proofs.Common.{◌≡◌, ℕ, zero, suc, ◌+◌, ◌*◌, ◌/◌, ◌%◌, ◌<◌, ◌≤◌, Bool, true, false, cond, ◌&&◌, eqb, leb, List, [], ◌∷◌, ◌++◌, length, get_or, take, Some, None, Option, option_map, sym, refl, ap, subst, ◌∙◌, ◌⊎◌, ⊎_elim, append_assoc, append-nil, arith, length-append}
+use Rattle.std.proofs.Common.{◌≡◌, ℕ, zero, suc, ◌+◌, ◌*◌, ◌/◌, ◌%◌, ◌<◌, ◌≤◌, Bool, true, false, cond, ◌&&◌, eqb, leb, List, [], ◌∷◌, ◌++◌, length, get_or, take, Some, None, Option, option_map, sym, refl, ap, ◌∙◌, ◌⊎◌, ⊎_elim, append_assoc, append-nil, arith, length-append}
 use Rattle.std.proofs.lemmas.List.{take_more, length-take-le}
 use Rattle.std.proofs.lemmas.Bool.Decides.{nat_tests}
 use Rattle.std.proofs.lemmas.Bool.{eqb-true, le-leb, lt-leb, and_parts, cases_lt, cond-true, cond-false}
@@ -142,10 +142,3 @@ hex_within_is_hex n v {bs} e = go (leb (length v / 2) n) e
     go : (b : Bool) → cond b (unhex [] v) None ≡ Some bs → v ≡ hex bs
     go false h = let z : ◌≡◌ {A = ℕ} 0 1 = cc in absurd (omega arith)
     go true h = let r = unhex_is_hex [] v h in r.2 ∙ ap hex (sym r.1)
-
-pub hex_within_bytes : (n : ℕ) (v : List ℕ) {bs : List ℕ} → hex_within n v ≡ Some bs → AreBytes bs
-hex_within_bytes n v {bs} e = go (leb (length v / 2) n) e
-  where
-    go : (b : Bool) → cond b (unhex [] v) None ≡ Some bs → AreBytes bs
-    go false h = let z : ◌≡◌ {A = ℕ} 0 1 = cc in absurd (omega arith)
-    go true h = let r = unhex_is_hex [] v h in subst AreBytes (sym r.1) r.3

@@ -7,7 +7,7 @@ use Rattle.std.proofs.lemmas.Bool.{eq-eqb, cases_lt, lt-ltb, le-ltb, cond-true}
 use Rattle.std.specs.Char.{digit_char}
 use Rattle.std.specs.Str.{all_ascii_digits}
 use Rattle.byte_strings.proofs.Decimals.{decimal_is_read, numbered_is_decimal}
-use Rattle.byte_strings.proofs.Hexadecimals.{hex_is_read, hex_within_is_hex, hex_within_bytes}
+use Rattle.byte_strings.proofs.Hexadecimals.{hex_is_read, hex_within_is_hex}
 use Rattle.byte_strings.specs.Decimal.{numbered}
 use Rattle.byte_strings.specs.Hexadecimal.{hex, hex_within}
 use Rattle.byte_strings.specs.Strings.{AreBytes}
@@ -68,10 +68,6 @@ read_bytes_back n most size v {bs} h = go (hex_within most v) (formed_back n (ex
 
 pub bytes_faithful : (n : ℕ) (most size : ℕ) → Faithful (bytes_line n [] most size)
 bytes_faithful n most size v bs h = hex_within_is_hex most v (read_bytes_back n most size v h)
-
--- what is read are bytes
-pub bytes_small : (n most size : ℕ) (v : List ℕ) {bs : List ℕ} → read_bytes n most size v ≡ Ok bs → AreBytes bs
-bytes_small n most size v h = hex_within_bytes most v (read_bytes_back n most size v h)
 
 hex_clean : (bs : List ℕ) → Clean (hex bs)
 hex_clean [] = tt

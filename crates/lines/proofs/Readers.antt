@@ -1,10 +1,8 @@
 -- A reader at one line after another.
 use Rattle.std.proofs.Common.{◌≡◌, ℕ, ◌+◌, List, Ok, Err, Result, sym, ap, ◌∙◌, subst}
 use Rattle.fault.specs.declared.fault.Fault.{Fault}
-use Rattle.byte_strings.specs.Strings.{AreBytes}
-use Rattle.lines.proofs.Codecs.{bytes_small}
-use Rattle.lines.proofs.Cuts.{then_back, never_ok, read_line_back}
-use Rattle.lines.specs.Lines.{Line, valued, then, read_line, bytes_line}
+use Rattle.lines.proofs.Cuts.{then_back, never_ok}
+use Rattle.lines.specs.Lines.{Line, valued, then, read_line}
 use Rattle.lines.specs.Reader.{Reader, value_of, moved, past}
 
 value_refused : {A B : Type 0} (m : Result (A × B) Fault) {e : Fault} → value_of m ≡ Err e → m ≡ Err e
@@ -35,11 +33,3 @@ module _ {A C : Type 0} {y : Result C Fault} (line : ℕ → Line A) (f : A × L
   refused_line {e} h at =
       let g : value_of (read_line (line (k + 1)) r.left) ≡ Err e = subst (λ n. value_of (read_line (line (n + 1)) r.left) ≡ Err e) at.0 (sym h) in
       at.1 ∙ ap (λ m. then m f) (value_refused (read_line (line (k + 1)) r.left) g)
-
--- what is read of hexadecimal digits are bytes
-pub bytes_read : (n most size : ℕ) (name s : List ℕ) {bs : List ℕ} → Ok bs ≡ value_of (read_line (bytes_line n name most size) s) → AreBytes bs
-bytes_read n most size name s {bs} h =
-    let a = then_back (read_line (bytes_line n name most size) s) (λ p. Ok p.0) (sym h) in
-    let b = read_line_back (bytes_line n name most size) s a.1 in
-    let z : a.0.0 ≡ bs = cc a.2 in
-    subst AreBytes z (bytes_small n most size b.0 b.2)
