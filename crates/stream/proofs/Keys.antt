@@ -1,22 +1,20 @@
 -- A key and the zeros after it are the key's block.
 use Rattle.std.proofs.Common.{◌≡◌, ℕ, ◌-◌, ◌<◌, ◌≤◌, false, cond, eqb, List, [], ◌∷◌, ◌++◌, length, take, drop, replicate, sym, refl, ap, ◌∙◌, not-suc-le-zero, arith}
 use Rattle.std.proofs.lemmas.Bool.{ne_eqb}
-use Rattle.std.proofs.lemmas.List.{drop-replicate, take-replicate, length-append, length-replicate}
+use Rattle.std.proofs.lemmas.List.{length-append, length-replicate}
 use Rattle.blake2.specs.Bytes.{pad}
 use Rattle.blake2.specs.Width.{Width, block_size}
 use Rattle.stream.specs.Hash.{key_block}
+use Rattle.stream.proofs.Closing.{padded}
 
 is_padded : (w : Width) (key : List ℕ) → 0 < length key → key_block w key ≡ pad (block_size w) key
 is_padded w [] h = absurd (not-suc-le-zero h)
 is_padded w (k ∷ ks) h = refl
 
--- the zeros come from a block of m
-pub keyed : (w : Width) (key : List ℕ) (b m : ℕ) → 0 < length key → b ≡ block_size w → b ≤ m
-    → key ++ take (b - length key) (drop (length key) (replicate m 0)) ≡ key_block w key
-unfolding pad
-keyed w key b m some size most =
-    ap (λ zs. key ++ zs) (ap (take (b - length key)) (drop-replicate (length key) m 0) ∙ take-replicate (b - length key) (m - length key) 0 (omega arith))
-    ∙ ap (λ n. pad n key) size ∙ sym (is_padded w key some)
+-- the key lies at the front of m zeros
+pub keyed : (w : Width) (key : List ℕ) (b m : ℕ) → 0 < length key → length key ≤ b → b ≡ block_size w → b ≤ m
+    → take b (key ++ drop (length key) (replicate m 0)) ≡ key_block w key
+keyed w key b m some short size most = padded b (length key) m key refl short most ∙ ap (λ n. pad n key) size ∙ sym (is_padded w key some)
 
 pub length-key_block : (w : Width) (key : List ℕ) → 0 < length key → length key ≤ block_size w → length (key_block w key) ≡ block_size w
 unfolding pad

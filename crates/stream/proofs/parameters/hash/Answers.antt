@@ -46,7 +46,7 @@ returns g c =
     let ok = sym c.in_ok-check.ensures in
     let tells = begin_tells w (length out) (length key) ok in
     let pass = hash-accepted w (length key) (length input) (length out) ok c.if-input-gt-LIMIT.false in
-    let keyed = ap length s.waits ∙ length-keyed w key (omega arith) in
+    let keyed = s.filled ∙ length-keyed w key (omega arith) in
     record {
       answer = ap Ok (c.blocks-blocks.ensures ∙ ap (λ n. before w n + 1) (omega (arith, c.add.ensures.count, keyed, s.none))) ∙ sym pass;
       out =

@@ -1,6 +1,6 @@
-use Rattle.std.proofs.Common.{◌≡◌, ◌%◌, ◌<◌, ◌++◌, length, ap, ◌∙◌, div-mul-le_self, rules, arith}
+use Rattle.std.proofs.Common.{◌≡◌, ◌%◌, ◌<◌, ◌≤◌, ◌++◌, length, take, ap, ◌∙◌, div-mul-le_self, rules, arith}
 use native.Mathlib.Nat.{mod_self}
-use Rattle.std.proofs.lemmas.List.{append_assoc, length-append}
+use Rattle.std.proofs.lemmas.List.{append_assoc, length-append, length-take-le}
 use Rattle.blake2.specs.Width.{block_size}
 use Rattle.stream.specs.Hash.{ended}
 use Rattle.stream.specs.States.{meaning}
@@ -11,17 +11,20 @@ use Rattle.stream.proofs.state.State.add.Goals as goal
 
 pub returns-then-piece-room-clause-means : goal.returns-then-piece-room-clause-means
 unfolding meaning
-returns-then-piece-room-clause-means g c = λ node rest.
-    let joins : c.try_extend_from_slice.new.self.items ≡ c.args.self.now.wait.items ++ c.args.piece.now = search rules in
-    rw (joins, append_assoc)
+returns-then-piece-room-clause-means g c = λ node rest. rw (c.fill.ensures.chain, c.fill.ensures.waits, append_assoc)
 
 pub absorb-requires : goal.absorb-requires
 absorb-requires g c =
     let small = g.met.W.Word.sizes.3 in
     let b = block_size g.W.Word.width in
-    let joins : c.try_extend_from_slice-2.new.self.items ≡ c.args.self.now.wait.items ++ c.split_at.result.0.now = search rules in
-    let full : length c.as_slice.result.now ≡ b =
-    ap length (c.as_slice.ensures.value ∙ joins) ∙ length-append c.args.self.now.wait.items c.split_at.result.0.now ∙ omega arith in
+    let size = c.block_bytes-size in
+    let s = c.args.self.now in
+    let front = c.split_at.result.0.now in
+    let filled = c.fill-2.ensures in
+    let within : s.filled ≤ length s.wait = search rules in
+    let full : length (take size.result c.fill-2.new.self.wait) ≡ b =
+    ap (λ n. length (take n c.fill-2.new.self.wait)) (omega (arith, filled.filled)) ∙ ap length filled.waits
+    ∙ length-append (take s.filled s.wait) front ∙ omega (arith, length-take-le s.filled s.wait within) in
     (chain_fits _ _ small.1 small.0, (ap (λ n. n % b) full ∙ mod_self b, omega arith))
 
 pub absorb-requires-2 : goal.absorb-requires-2
@@ -40,14 +43,17 @@ returns-clause-means g c = λ node rest.
     let more = c.split_at.result.1.now in
     let whole = c.split_at-2.result.0.now in
     let last = c.split_at-2.result.1.now in
-    let fills : c.try_extend_from_slice-2.new.self.items ≡ s.wait.items ++ front = search rules in
-    let waits : c.try_extend_from_slice-3.new.self.items ≡ last = search rules in
+    let full = c.fill-2.new.self in
+    let size = c.block_bytes-size.result in
     let some : 0 < length last = omega (arith, div-mul-le_self) in
     let behind : 0 < length (last ++ rest) = omega (arith, length-append last rest) in
     let after : 0 < length (whole ++ (last ++ rest)) = omega (arith, length-append whole (last ++ rest)) in
-    ap (λ xs. ended w node c.absorb-2.new.self.t (xs ++ rest) c.absorb-2.new.self.h) waits
+    let fills : take size full.wait ≡ take s.filled s.wait ++ front = ap (λ n. take n full.wait) (omega (arith, c.fill-2.ensures.filled)) ∙ c.fill-2.ensures.waits in
+    ap (λ chain. ended w node chain.t (take c.fill-3.new.self.filled c.fill-3.new.self.wait ++ rest) chain.h) c.fill-3.ensures.chain
+    ∙ ap (λ xs. ended w node c.absorb-2.new.self.t (xs ++ rest) c.absorb-2.new.self.h) c.fill-3.ensures.waits
     ∙ c.absorb-2.ensures.means node (last ++ rest) behind
     ∙ c.absorb.ensures.means node (whole ++ (last ++ rest)) after
-    ∙ ap (λ xs. ended w node s.chain.t (xs ++ (whole ++ (last ++ rest))) s.chain.h) (c.as_slice.ensures.value ∙ fills)
+    ∙ ap (λ chain. ended w node chain.t (take size full.wait ++ (whole ++ (last ++ rest))) chain.h) c.fill-2.ensures.chain
+    ∙ ap (λ xs. ended w node s.chain.t (xs ++ (whole ++ (last ++ rest))) s.chain.h) fills
     ∙ ap (λ xs. ended w node s.chain.t xs s.chain.h)
-    (parts s.wait.items c.args.piece.now front more whole last rest c.split_at.ensures.by_index.0 c.split_at-2.ensures.by_index.0)
+    (parts (take s.filled s.wait) c.args.piece.now front more whole last rest c.split_at.ensures.by_index.0 c.split_at-2.ensures.by_index.0)

@@ -1,4 +1,5 @@
-use Rattle.std.proofs.Common.{◌++◌, length, take, drop, replicate, ap, ◌∙◌, arith}
+use Rattle.std.proofs.Common.{◌≤◌, ◌++◌, length, take, drop, replicate, sym, ap, ◌∙◌, arith, rules}
+use Rattle.std.proofs.lemmas.List.{length-take-le}
 use Rattle.blake2.specs.Bytes.{bytes_of}
 use Rattle.blake2.specs.Width.{block_size}
 use Rattle.stream.specs.States.{meaning}
@@ -10,12 +11,15 @@ unfolding meaning
 returns g c =
     let s = c.args.self in
     let w = g.W.Word.width in
-    let n = c.len-n.result in
+    let n = s.filled in
+    let waits = take n s.wait in
     let b = c.block_bytes.ensures in
     let room = s.room in
-    let fits = ap (λ xs. take c.block_bytes.result (xs ++ drop n (replicate 128 0))) (c.copy_from_slice.ensures.after ∙ c.as_slice.ensures.value)
-    ∙ ap (λ k. take k (s.wait.items ++ drop n (replicate 128 0))) b.size
-    ∙ padded (block_size w) n 128 s.wait.items c.len-n.ensures.value (omega arith) (omega arith) in
+    let within : n ≤ length s.wait = search rules in
+    let long = sym (length-take-le n s.wait within) in
+    let fits = ap (λ xs. take c.block_bytes.result (xs ++ drop n (replicate 128 0))) c.copy_from_slice.ensures.after
+    ∙ ap (λ k. take k (waits ++ drop n (replicate 128 0))) b.size
+    ∙ padded (block_size w) n 128 waits long (omega arith) (omega arith) in
     c.put.ensures
     ∙ ap (λ h. take (length c.args.out.now) (bytes_of w h))
-    (closed w c.args.node s.chain.t n s.wait.items _ s.chain.h _ (omega arith) c.len-n.ensures.value (omega arith) fits c.compress.ensures.value)
+    (closed w c.args.node s.chain.t n waits _ s.chain.h _ (omega arith) long (omega arith) fits c.compress.ensures.value)
