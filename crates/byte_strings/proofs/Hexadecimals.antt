@@ -1,6 +1,6 @@
 -- Hexadecimal text: what its reader and its writer do at each byte, and that they are inverse to each other.
-use Rattle.std.proofs.Common.{◌≡◌, ℕ, zero, suc, ◌+◌, ◌*◌, ◌/◌, ◌%◌, ◌<◌, ◌≤◌, Bool, true, false, cond, ◌&&◌, eqb, leb, List, [], ◌∷◌, ◌++◌, length, get_or, take, Some, None, Option, option_map, sym, refl, ap, ◌∙◌, ◌⊎◌, ⊎_elim, append_assoc, append-nil, arith, length-append}
-use Rattle.std.proofs.lemmas.List.{take_more, length-take-le}
+use Rattle.std.proofs.Common.{◌≡◌, ℕ, zero, suc, ◌+◌, ◌*◌, ◌/◌, ◌%◌, ◌<◌, ◌≤◌, Bool, true, false, cond, ◌&&◌, eqb, leb, List, [], ◌∷◌, ◌++◌, length, get_or, take, Some, None, Option, option_map, sym, refl, ap, ◌∙◌, ◌⊎◌, ⊎_elim, append_assoc, append-nil, arith}
+use Rattle.std.proofs.lemmas.List.{take_more}
 use Rattle.std.proofs.lemmas.Bool.Decides.{nat_tests}
 use Rattle.std.proofs.lemmas.Bool.{eqb-true, le-leb, lt-leb, and_parts, cases_lt, cond-true, cond-false}
 use Rattle.std.specs.Char.{digit_char}
@@ -67,10 +67,6 @@ hex_more a bytes i {o} {p} {q} {h} {l} lt eo ep eq eh el =
 pub length-hex : (bs : List ℕ) → length (hex bs) ≡ 2 * length bs
 length-hex [] = refl
 length-hex (b ∷ bs) = omega (arith, length-hex bs)
-
-pub length_hex_part : (a bytes : List ℕ) (i : ℕ) {o : List ℕ} → i ≤ length bytes → o ≡ a ++ hex (take i bytes) → length o ≡ length a + 2 * i
-length_hex_part a bytes i lt e =
-    omega (arith, ap length e, length-append a (hex (take i bytes)), length-hex (take i bytes), length-take-le i bytes lt)
 
 -- the library's table of digits has the same ones
 

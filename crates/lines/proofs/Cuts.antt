@@ -68,10 +68,6 @@ never_ok h = let z : ◌≡◌ {A = ℕ} 0 1 = cc in omega arith
 pub never_some : {A : Type 0} {x : A} → None ≡ Some x → ⊥
 never_some h = let z : ◌≡◌ {A = ℕ} 0 1 = cc in omega arith
 
-pub err_from_ok_or : {A E : Type 0} (o : Option A) (d e : E) → Err e ≡ ok_or o d → e ≡ d
-err_from_ok_or None d e h = cc
-err_from_ok_or (Some x) d e h = absurd (never_ok h)
-
 pub then_back : {A C E : Type 0} (m : Result A E) (f : A → Result C E) {y : C} → then m f ≡ Ok y → (x : A) × (m ≡ Ok x) × (f x ≡ Ok y)
 then_back (Ok x) f h = (x, refl, h)
 then_back (Err e) f h = absurd (never_ok h)
