@@ -1,13 +1,28 @@
 -- Fields that are put into a block one after another.
 use Rattle.std.proofs.Common.{◌≡◌, ℕ, ◌+◌, ◌-◌, ◌≤◌, List, [], ◌∷◌, ◌++◌, length, take, drop, replicate, sym, ap, ◌∙◌, arith}
 use borrow.Rule.Slice.PartMut.{put_mid}
-use Rattle.std.proofs.lemmas.List.{append_assoc, drop_at, drop-replicate, length-append, length-take-le, take_at}
+use Rattle.std.proofs.lemmas.List.{append_assoc, drop_at, drop-replicate, length-append, take_at}
 use Rattle.blake2.specs.Bytes.{le_bytes, pad}
 use Rattle.blake2.specs.declared.variant.Variant.{Variant}
 use Rattle.blake2.specs.declared.variant.Variant.TheVariants.{B, S}
 use Rattle.label.specs.Labels.{Parts}
 use Rattle.nodehash.specs.declared.position.Position.{Position}
 use Rattle.blake2_node.specs.Parameters.{fields, offset_length, zeros_length}
+
+pub next_place : (front field : List ℕ) (at next : ℕ) → length front ≡ at → next ≡ at + length field → length (front ++ field) ≡ next
+next_place front field at next here e = omega (arith, length-append front field)
+
+-- a field that is written after a front takes the place of zeros
+pub put_after : (n k at : ℕ) (front field block last : List ℕ) → at + length field ≤ n → length front ≡ at → block ≡ pad n front → k ≡ length field → last ≡ field
+    → put_mid at k block last ≡ pad n (front ++ field)
+unfolding pad
+put_after n k at front field block last room here zeros size copy =
+    let rest : List ℕ = replicate (n - length front) 0 in
+    let before : take at block ≡ front = ap (take at) zeros ∙ take_at front rest at here in
+    let behind : drop k (drop at block) ≡ replicate (n - length (front ++ field)) 0 =
+    ap (λ xs. drop k (drop at xs)) zeros ∙ ap (drop k) (drop_at front rest at here) ∙ drop-replicate k (n - length front) 0
+    ∙ ap (λ m. replicate m 0) (omega (arith, length-append front field)) in
+    (λ i. before i ++ (copy i ++ behind i)) ∙ sym (append_assoc front field (replicate (n - length (front ++ field)) 0))
 
 -- the first bytes of an offset, as many as it has
 pub offset_bytes : (v : Variant) (n x : ℕ) (bytes : List ℕ) → n ≡ offset_length v → bytes ≡ le_bytes 8 x → take n bytes ≡ le_bytes (offset_length v) x

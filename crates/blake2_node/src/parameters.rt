@@ -1,12 +1,10 @@
 // The parameter block of a node.
-ghost use Rattle.std.specs.Prelude.{◌≡◌, ◌+◌, ◌≤◌, List, [], ◌++◌, length};
+ghost use Rattle.std.specs.Prelude.{◌≡◌, ℕ, ◌+◌, ◌≤◌, List, ◌++◌, length};
 ghost use Rattle.blake2.specs.Bytes.{pad};
-ghost use Rattle.byte_strings.specs.Strings.{listed};
 ghost use Rattle.label.specs.Meaning.{parts};
 ghost use Rattle.blake2_node.specs.Parameters.{offset_length, zeros_length, parameter_block};
 
 use blake2::Variant;
-use byte_strings::Bytes;
 use label::Label;
 use nodehash::Position;
 
@@ -21,12 +19,15 @@ fn lengths(variant: Variant) -> (usize, usize)
     }
 }
 
-// Puts a field behind those that are there.
-fn put(block: &mut Bytes<64>, field: &[u8])
-    requires { length (listed block.old) + length field.now ≤ 64 }
-    ensures { listed block.new ≡ listed block.old ++ field.now }
+// Puts a field after the `at` bytes that are there, and says where the next one goes. The block is no byte string: its `append` tests when it runs whether the field fits.
+fn put(block: &mut [u8; 64], at: usize, field: &[u8]) -> usize
+    requires { at + length field.now ≤ 64 }
+    ensures next { result ≡ at + length field.now }
+    ensures after { (front : List ℕ) → length front ≡ at → block.old ≡ pad 64 front → block.new ≡ pad 64 (front ++ field.now) }
 {
-    block.append(field).unwrap();
+    let end = at + field.len();
+    block[at..end].copy_from_slice(field);
+    end
 }
 
 // The parameter block of a node under a label.
@@ -35,16 +36,17 @@ pub(crate) fn parameter_block(label: &Label, position: Position) -> [u8; 64]
 {
     let (offset_length, zeros_length) = lengths(label.variant);
     let offset = u64::from(position.offset).to_le_bytes();
-    let mut block = Bytes::new();
-    put(
+    let mut block = [0u8; 64];
+    let at = put(
         &mut block,
+        0,
         &[label.digest, label.key, label.fanout, label.depth],
     );
-    put(&mut block, &u32::from(label.page).to_le_bytes());
-    put(&mut block, &offset[..offset_length]);
-    put(&mut block, &[position.depth, label.digest]);
-    put(&mut block, &[0u8; 14][..zeros_length]);
-    put(&mut block, label.salt.as_slice());
-    put(&mut block, label.layout.as_slice());
-    block.padded()
+    let at = put(&mut block, at, &u32::from(label.page).to_le_bytes());
+    let at = put(&mut block, at, &offset[..offset_length]);
+    let at = put(&mut block, at, &[position.depth, label.digest]);
+    let at = put(&mut block, at, &[0u8; 14][..zeros_length]);
+    let at = put(&mut block, at, label.salt.as_slice());
+    put(&mut block, at, label.layout.as_slice());
+    block
 }
